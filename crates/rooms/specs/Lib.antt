@@ -1,3 +1,4 @@
 pub mod House
 pub mod Promise
 pub mod Rows
+pub mod First

@@ -8,6 +8,7 @@ ghost use Rattle.std.specs.Results.{Cases};
 ghost use Rattle.rooms.specs.House.{worth-at};
 ghost use Rattle.rooms.specs.Format.{most-people, Allowed, word, people, group-length, worth-place, worth-word, first-large, house-of, row-of, read, is-taken, taken, refused};
 ghost use Rattle.rooms.specs.Refused.{number-of, place-of};
+ghost use Rattle.rooms.specs.Roundtrip.{Reads-back, Writes-back};
 use super::refusal::Refusal;
 
 // The bounds of a group.
@@ -58,6 +59,12 @@ fn first_large(bytes: &[u8], n: usize) -> usize
     }
     n * n
 }
+
+// The format loses nothing: a house's bytes are read back as that house, and bytes that are taken are just their house's.
+pub fn format_stands()
+    ensures reads { λ _. ⌜ Reads-back ⌝ }
+    ensures writes { λ _. ⌜ Writes-back ⌝ }
+{}
 
 impl<'a> Group<'a> {
     // Whether the bytes are a group's, or why not.

@@ -100,8 +100,10 @@ impl<'a> Group<'a> {
         requires { ⌜ read (now bytes) ≡ taken (house-of (now bytes)) ⌝ }
         ensures { λ g. ⌜ now (g .bytes) ≡ now (bytes .entry) ⌝ }
     {
-        let n = bytes[0] as usize;
-        Group { bytes, n }
+        Group {
+            bytes,
+            n: bytes[0] as usize,
+        }
     }
 
     // How many people, and rooms.
@@ -125,9 +127,10 @@ impl<'a> Group<'a> {
         ensures whole { λ mine. ⌜ mine ≡ row-of (house-of (now (now (self .entry) .bytes))) i ⌝ }
         ensures each { λ mine. ⌜ ((r : ℕ) → getD mine r 0 ≡ worth-at (house-of (now (now (self .entry) .bytes))) i r) ⌝ }
     {
+        let n = self.n;
         let mut mine = [0; MOST_PEOPLE];
-        for r in 0..self.n {
-            mine[r] = worth_word(self.bytes, i * self.n + r);
+        for r in 0..n {
+            mine[r] = worth_word(self.bytes, i * n + r);
         }
         mine
     }

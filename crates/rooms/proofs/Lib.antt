@@ -1,1 +1,5 @@
 pub mod First
+pub mod Product
+pub mod Sum
+pub mod Reorder
+pub mod Sharing

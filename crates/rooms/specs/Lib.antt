@@ -1,4 +1,5 @@
+pub mod First
 pub mod House
 pub mod Promise
 pub mod Rows
-pub mod First
+pub mod Sharing

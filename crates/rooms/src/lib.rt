@@ -1,6 +1,2 @@
 // What a house and a settlement are.
-ghost use Prim.Native.Nat.{_≤_};
-
-pub fn unit_stands()
-    ensures { λ _. ⌜ 0 ≤ 1 ⌝ }
-{}
+pub mod theory;

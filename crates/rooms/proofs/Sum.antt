@@ -1,12 +1,12 @@
 -- Sums of integers over the numbers below n.
-use mathlib.Core.Path.{_≡_, refl, ap}
-use mathlib.Core.Bool.{Bool, true, false}
+use mathlib.Core.Path.{_≡_, refl, sym, ap}
+use mathlib.Core.Bool.{Bool, true, false, cond}
 use Prim.Native.Nat.{ℕ, zero, suc, _<_}
 use native.Mathlib.Omega.{arith}
 use lib.Dec.{eqb}
 use lib.IntN.{ℤ, pos, _+ℤ_, _-ℤ_, _*ℤ_}
 use lib.Signed.{_≤ℤ_}
-use borrow.Author.Tests.{eqb-true, eqb-apart}
+use borrow.Author.Tests.{eqb-true, eqb-apart, apart-eqb, eq-eqb}
 use Rattle.std.proofs.shelf.Signed.{ints}
 use Rattle.rooms.specs.House.{sum}
 use Rattle.rooms.proofs.Product.{times-add}
@@ -78,6 +78,24 @@ sum-but f g r (suc n) l h = last (eqb r n) refl (λ m. sum-but f g r n m (λ i p
         let a = go v in
         let b : f n ≡ g n = h n (omega arith) (omega arith) in
         omega (arith, ints)
+
+-- Two families that differ at two numbers: go from the one to the other in two steps.
+pub sum-but-two : (f g : ℕ → ℤ) (a b n : ℕ) → a < n → b < n → ¬ (a ≡ b) → ((i : ℕ) → i < n → ¬ (i ≡ a) → ¬ (i ≡ b) → f i ≡ g i) →
+    (sum f n +ℤ g a) +ℤ g b ≡ (sum g n +ℤ f a) +ℤ f b
+sum-but-two f g a b n l m ne same =
+    let k = λ (i : ℕ). cond (eqb i a) (f i) (g i) in
+    let ka : k a ≡ f a = simp (eq-eqb a a refl) in
+    let kb : k b ≡ g b = simp (apart-eqb b a (λ e. ne (sym e))) in
+    let p = sum-but k g a n l (λ i q r. simp (apart-eqb i a r)) in
+    let q = sum-but f k b n m (λ i q r. mid i q r (eqb i a) refl) in
+    join (sum f n) (sum k n) (sum g n) (f a) (g a) (k a) (f b) (g b) (k b) ka kb p q
+  where
+    mid : (i : ℕ) → i < n → ¬ (i ≡ b) → (t : Bool) → eqb i a ≡ t → f i ≡ cond t (f i) (g i)
+    mid i q r true u = refl
+    mid i q r false u = same i q (eqb-apart i a u) r
+
+    join : (F K G fa ga ka fb gb kb : ℤ) → ka ≡ fa → kb ≡ gb → K +ℤ ga ≡ G +ℤ ka → F +ℤ kb ≡ K +ℤ fb → (F +ℤ ga) +ℤ gb ≡ (G +ℤ fa) +ℤ fb
+    join F K G fa ga ka fb gb kb a b c d = omega (arith, ints)
 
 -- Where no term is below nothing, neither is the sum, and no term is above it.
 pub term-le : (f : ℕ → ℤ) (n : ℕ) → ((i : ℕ) → i < n → pos 0 ≤ℤ f i) → (pos 0 ≤ℤ sum f n) × ((i : ℕ) → i < n → f i ≤ℤ sum f n)

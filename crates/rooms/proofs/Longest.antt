@@ -18,19 +18,10 @@ use Rattle.rooms.specs.House.{House, Housed, joint, room-of, sum, value}
 use Rattle.rooms.specs.Promise.{Best-sharing}
 use Rattle.rooms.specs.Rows.{Apart, Longest, Row, begin, long, number, way}
 use Rattle.rooms.specs.Sharing.{Longest-exists, No-more}
+use Rattle.rooms.proofs.Find.{find}
 use Rattle.rooms.proofs.Row.{Parted, part, row-begin, row-end}
 use Rattle.rooms.proofs.Sum.{sum-but, sum-le, term-le}
 use Rattle.rooms.proofs.Turn.{best-around}
-
--- One of which P holds, or Q of each.
-find : (P Q : ℕ → Type 0) (n : ℕ) → ((i : ℕ) → i < n → P i ⊎ Q i) → ((i : ℕ) × (i < n) × P i) ⊎ ((i : ℕ) → i < n → Q i)
-find P Q zero f = inr (λ i l. absurd (omega arith))
-find P Q (suc n) f = last (f n (omega arith)) (find P Q n (λ i l. f i (omega arith)))
-  where
-    last : P n ⊎ Q n → ((i : ℕ) × (i < n) × P i) ⊎ ((i : ℕ) → i < n → Q i) → ((i : ℕ) × (i < suc n) × P i) ⊎ ((i : ℕ) → i < suc n → Q i)
-    last (inl p) r = inl (n, omega arith, p)
-    last (inr q) (inl r) = let l : r .0 < n = r .1 in inl (r .0, omega arith, r .2)
-    last (inr q) (inr r) = inr (λ i l. elim (cases-eq i n) [ inl e ↦ subst Q (sym e) q | inr e ↦ r i (omega arith) ])
 
 -- Numbers that no way leads to more than, from 0 on, are not below any row. By induction along the row.
 pub none-longer : (h : House) (room : List ℕ) (d : ℕ → ℤ) → ((i : ℕ) → i < h .n → pos 0 ≤ℤ d i) →

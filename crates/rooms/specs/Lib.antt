@@ -1,3 +1,4 @@
+pub mod Before
 pub mod First
 pub mod House
 pub mod Promise

@@ -1,4 +1,5 @@
 // The theory of sharings and rows, with no algorithm in it: each function computes nothing, and its contract is what is proved.
+ghost use Rattle.rooms.specs.Before.{Ends-or-circle, Shown-longest};
 ghost use Rattle.rooms.specs.Promise.{Any-best, Best, Fairest-at-least};
 ghost use Rattle.rooms.specs.Sharing.{Best-around, Certified-around, Certified-best, Longest-exists, No-more, Onto, Row-within, Same-sum};
 
@@ -20,4 +21,9 @@ pub fn rows_stands()
     ensures within { λ _. ⌜ Row-within ⌝ }
     ensures longest { λ _. ⌜ Longest-exists ⌝ }
     ensures most { λ _. ⌜ No-more ⌝ }
+{}
+
+pub fn before_stands()
+    ensures shown { λ _. ⌜ Shown-longest ⌝ }
+    ensures circle { λ _. ⌜ Ends-or-circle ⌝ }
 {}

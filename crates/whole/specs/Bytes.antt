@@ -1,23 +1,14 @@
--- The eight bytes of a number, the lowest first, and the number of eight bytes. Assumes nothing: these are definitions.
+-- The eight bytes of a number, the lowest first, at a place among other bytes, and the number of eight bytes. Assumes nothing: these are definitions.
 use mathlib.Core.Path.{_≡_}
 use mathlib.Core.Logic.{_⊎_}
-use mathlib.Core.List.{List, [], _∷_, _++_}
-use Prim.Native.Nat.{ℕ, zero, suc, _+_, _*_, _/_, _%_, _^_, _≤_, _<_}
+use mathlib.Core.List.{List, _++_}
+use Prim.Native.Nat.{ℕ, _+_, _^_, _≤_, _<_}
 use lib.IntN.{ℤ}
 use lib.ListN.{length, getD, take, drop}
 use mir.Syntax.{w64}
 use mir.Val.{ofZ, toZ}
+use Rattle.rooms.specs.Bytes.{low-bytes, from-bytes, Bytes}
 use Rattle.whole.specs.Bits.{Signed-64}
-
--- The k lowest bytes of a number, the lowest first.
-unfoldable pub low-bytes : ℕ → ℕ → List ℕ
-low-bytes zero x = []
-low-bytes (suc k) x = x % 256 ∷ low-bytes k (x / 256)
-
--- The number that has these bytes, the lowest first.
-unfoldable pub number : List ℕ → ℕ
-number [] = 0
-number (b ∷ bs) = b + 256 * number bs
 
 -- The eight bytes of a number.
 unfoldable pub bytes-of : ℕ → List ℕ
@@ -29,15 +20,11 @@ eight-at s at = take 8 (drop at s)
 
 -- The number that stands at a place.
 unfoldable pub number-at : List ℕ → ℕ → ℕ
-number-at s at = number (eight-at s at)
+number-at s at = from-bytes (eight-at s at)
 
 -- The bytes s with those of x at a place; all others are as they were.
 unfoldable pub put : List ℕ → ℕ → ℕ → List ℕ
 put s at x = take at s ++ (bytes-of x ++ drop (at + 8) s)
-
--- All are bytes.
-abbrev pub Bytes : List ℕ → Type 0
-Bytes s = (k : ℕ) → getD s k 0 < 256
 
 -- A number has eight bytes, and they are bytes.
 abbrev pub Eight : Type 0
@@ -47,11 +34,12 @@ Eight = (x : ℕ) → (length (bytes-of x) ≡ 8) × Bytes (bytes-of x)
 abbrev pub Read-back : Type 0
 Read-back = (s : List ℕ) (at x : ℕ) → at + 8 ≤ length s → x < 2 ^ 64 → number-at (put s at x) at ≡ x
 
--- A number that stands wholly before or after a write is read as before, and the length is kept.
+-- A write keeps the length and every other byte, and so each number that stands wholly before or after it.
 abbrev pub Kept : Type 0
 Kept =
     (s : List ℕ) (at x : ℕ) → at + 8 ≤ length s →
-    (length (put s at x) ≡ length s) × ((p : ℕ) → (p + 8 ≤ at) ⊎ (at + 8 ≤ p) → number-at (put s at x) p ≡ number-at s p)
+    (length (put s at x) ≡ length s) × ((k : ℕ) → (k < at) ⊎ (at + 8 ≤ k) → getD (put s at x) k 0 ≡ getD s k 0)
+    × ((p : ℕ) → (p + 8 ≤ at) ⊎ (at + 8 ≤ p) → number-at (put s at x) p ≡ number-at s p)
 
 -- A number that is read from bytes fits in 64 bits.
 abbrev pub Below : Type 0

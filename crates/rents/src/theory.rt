@@ -1,4 +1,5 @@
 // The theory of the fairest rents: each function computes nothing, and its contract is what is proved.
+ghost use Rattle.rooms.specs.Promise.{Always};
 ghost use Rattle.rents.specs.Rents.{Least-spare, Made-fairest, None-more, Rents-add-up, Rents-exist, Rents-settle, Same-rents};
 ghost use Rattle.rents.specs.Shown.{Shown-fairest, Shows-decides};
 
@@ -18,4 +19,8 @@ pub fn fairest_stands()
 pub fn shown_stands()
     ensures fairest { λ _. ⌜ Shown-fairest ⌝ }
     ensures decides { λ _. ⌜ Shows-decides ⌝ }
+{}
+
+pub fn always_stands()
+    ensures { λ _. ⌜ Always ⌝ }
 {}

@@ -165,7 +165,7 @@ module _ (h : House) (room : List ℕ) where
   found-or-circle : Found ⊎ Circle h room
   found-or-circle = repeat (suc (natAbs (joint h room))) (λ i. []) alone enough
 
-  longest-of : Found → (d : List ℤ) × Longest h room d
+  longest-of : Found → (d : List ℤ) × Longest h room d × ((k i : ℕ) → k < h .n → i < h .n → (number d k +ℤ way h room k i) ≤ℤ number d i)
   unfolding Stable
   longest-of f = (
     map to (counting 0 (h .n)),
@@ -174,6 +174,7 @@ module _ (h : House) (room : List ℕ) where
       reached = λ i l. (f .rows i, f .rows-to .row i l, sym (at i l));
       most = λ i xs l r. rw (at i l) (none-longer h room to (f .rows-to .some) (λ k i l m. f .stable k l i m) i xs r);
     },
+    λ k i l m. rw (at k l, at i m) (f .stable k l i m),
   )
     where
       to : ℕ → ℤ
@@ -182,14 +183,15 @@ module _ (h : House) (room : List ℕ) where
       at : (i : ℕ) → i < h .n → number (map to (counting 0 (h .n))) i ≡ to i
       at i l = getD-map-counting to 0 (h .n) i i (pos 0) l (omega arith)
 
--- There are longest rows, or a row around is longer than nothing.
-pub longest-or-circle : (h : House) (room : List ℕ) → ((d : List ℤ) × Longest h room d) ⊎ Circle h room
+-- There are longest rows and no way leads to more, or a row around is longer than nothing.
+pub longest-or-circle : (h : House) (room : List ℕ) →
+    ((d : List ℤ) × Longest h room d × ((k i : ℕ) → k < h .n → i < h .n → (number d k +ℤ way h room k i) ≤ℤ number d i)) ⊎ Circle h room
 longest-or-circle h room = elim (found-or-circle h room) [ inl f ↦ inl (longest-of h room f) | inr c ↦ inr c ]
 
 pub longest-exists : Longest-exists
 longest-exists h room s b =
     elim (longest-or-circle h room) [
-      | inl d ↦ d
+      | inl d ↦ (d .0, d .1)
       | inr c ↦ let a = best-around h room s b (c .i) (c .xs) (c .row) in let u = c .above in absurd (omega (arith, ints))
     ]
 

@@ -1,0 +1,1 @@
+// The longest rows of ways among people.

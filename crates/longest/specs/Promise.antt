@@ -7,6 +7,7 @@ use lib.Signed.{_≤ℤ_}
 use lib.ListN.{length, replicate}
 use Rattle.std.specs.Iters.{counting}
 use Rattle.rooms.specs.House.{House}
+use Rattle.rooms.specs.Format.{most-people, most-worth}
 use Rattle.rooms.specs.Rows.{Certified, Row, Longest, number, signed, way, long, begin}
 use Rattle.longest.specs.Before.{nobody, Rows-shown}
 use Rattle.longest.specs.Run.{at, whole-run}
@@ -15,11 +16,11 @@ use Rattle.longest.specs.Run.{at, whole-run}
 abbrev pub work-len : ℕ → ℕ
 work-len n = n * n
 
--- A sharing with numbers that show it best, none above a million.
+-- A sharing with numbers that show it best, none above the greatest worth.
 pub record Numbered (h : House) (room u v : List ℕ) : Type 0 where
   pub certified : Certified h room (signed u) (signed v)
-  pub persons : (i : ℕ) → i < h .n → at u i ≤ 1000000
-  pub prices : (r : ℕ) → r < h .n → at v r ≤ 1000000
+  pub persons : (i : ℕ) → i < h .n → at u i ≤ most-worth
+  pub prices : (r : ℕ) → r < h .n → at v r ≤ most-worth
 
 -- The lengths d of the longest rows, the persons before and the count of rounds, as functions of the house, the sharing and its numbers. Which of
 -- several longest rows is shown depends on the ties; d does not, since only one list is Longest.
@@ -32,16 +33,16 @@ before-of h room u v = whole-run h room u v .before
 abbrev pub rounds-of : House → (room u v : List ℕ) → ℕ
 rounds-of h room u v = whole-run h room u v .rounds
 
--- These in arrays of 24: past the n people, 0 and nobody.
+-- These in arrays of the most people: past the n, 0 and nobody.
 pub record Found (h : House) (room u v d before : List ℕ) (rounds : ℕ) : Type 0 where
-  pub lengths : d ≡ longest-of h room u v ++ replicate (24 - h .n) 0
-  pub priors : before ≡ before-of h room u v ++ replicate (24 - h .n) nobody
+  pub lengths : d ≡ longest-of h room u v ++ replicate (most-people - h .n) 0
+  pub priors : before ≡ before-of h room u v ++ replicate (most-people - h .n) nobody
   pub count : rounds ≡ rounds-of h room u v
 
 -- The search comes to an end in fewer than n rounds, and what it finds is shown.
 abbrev pub Search-ends : Type 0
 Search-ends =
-    (h : House) (room u v : List ℕ) → 0 < h .n → h .n ≤ nobody → Certified h room (signed u) (signed v) →
+    (h : House) (room u v : List ℕ) → 0 < h .n → h .n ≤ nobody → h .n ≤ length u → Certified h room (signed u) (signed v) →
     Rows-shown h room (signed (longest-of h room u v)) (before-of h room u v) × (rounds-of h room u v < h .n)
 
 -- Whatever is shown so, by whomever, is longest: each number is the length of a row in which nobody stands twice, and no such row is longer.

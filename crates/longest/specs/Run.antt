@@ -1,11 +1,13 @@
 -- How the search for the longest rows runs, step by step. Assumes nothing: these are definitions.
 use mathlib.Core.Bool.{Bool, cond, _&&_, _||_}
+use mathlib.Core.Path.{_≡_}
 use mathlib.Core.List.{List, map}
-use Prim.Native.Nat.{ℕ, zero, suc, _+_, _-_, _*_}
+use Prim.Native.Nat.{ℕ, zero, suc, _+_, _-_, _*_, _≤_, _<_}
 use lib.Dec.{ltb, eqb}
-use lib.ListN.{getD, set, take, replicate}
+use lib.ListN.{length, getD, set, take, replicate}
 use Rattle.std.specs.Iters.{counting}
 use Rattle.rooms.specs.House.{House, worth-at, room-of}
+use Rattle.rooms.specs.Format.{most-people, most-worth}
 use Rattle.longest.specs.Before.{nobody}
 
 -- A natural number of a list of them.
@@ -20,6 +22,12 @@ slack h room u v k i = at u i + at v (room-of room k) - worth-at h i (room-of ro
 -- A table with a line of n slacks for each person, of the ways to that person.
 abbrev pub in-table : List ℕ → ℕ → ℕ → ℕ → ℕ
 in-table table n k i = at table (i * n + k)
+
+-- Such a table, of slacks that are no more than two of the greatest worth.
+pub record Table (n : ℕ) (table : List ℕ) : Type 0 where
+  pub few : n ≤ most-people
+  pub size : length table ≡ n * n
+  pub small : (k i : ℕ) → k < n → i < n → in-table table n k i ≤ 2 * most-worth
 
 -- For each person, the least that a row to them leaves of their number if they came last to a row found so far; and who stands before them there.
 pub record Offers : Type 0 where

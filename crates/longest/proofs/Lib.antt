@@ -5,3 +5,5 @@ mod Going
 mod Slacks
 mod Passing
 mod Lines
+mod Padded
+mod Outcome

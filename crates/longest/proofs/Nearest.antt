@@ -6,13 +6,20 @@ use mathlib.Core.List.{List}
 use Prim.Native.Nat.{ℕ, zero, suc, _+_, _≤_, _<_}
 use native.Mathlib.Omega.{arith}
 use native.Mathlib.Numerals.{add-one}
-use Rattle.std.proofs.shelf.Tests.{cases-eq}
+use Rattle.std.proofs.shelf.Tests.{cases-eq, cond-true, cond-false}
 use Rattle.std.proofs.shelf.Ways.{tells}
 use Rattle.longest.specs.Run.{at, nearer, nearest}
 
-pub nearest-more : (n : ℕ) (l o : List ℕ) (k a : ℕ) → a ≡ nearest n l o k → nearest n l o (k + 1) ≡ cond (nearer n l o k a) k a
-unfolding nearest
-nearest-more n l o k a e = rw (add-one, e)
+module _ (n : ℕ) (l o : List ℕ) (k a : ℕ) (t : Bool) (b : ℕ) (e : a ≡ nearest n l o k) (q : t ≡ nearer n l o k a) where
+  more : nearest n l o (k + 1) ≡ cond t k a
+  unfolding nearest
+  more = rw (add-one, q, e)
+
+  pub nearest-takes : t ≡ true → b ≡ k → b ≡ nearest n l o (k + 1)
+  nearest-takes z f = f ∙ sym (more ∙ cond-true t k a z)
+
+  pub nearest-keeps : t ≡ false → b ≡ a → b ≡ nearest n l o (k + 1)
+  nearest-keeps z f = f ∙ sym (more ∙ cond-false t k a z)
 
 -- m is, of the persons below k whose offer is below what they have left, one with the least offer; or it is n, and there is none.
 abbrev Chosen : ℕ → (l o : List ℕ) → ℕ → ℕ → Type 0

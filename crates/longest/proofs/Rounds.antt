@@ -7,6 +7,7 @@ use mathlib.Core.Bool.{Bool, true, false, cond}
 use Prim.Native.Nat.{ℕ, zero, suc, _+_, _-_, _≤_, _<_}
 use lib.Dec.{eqb, ltb}
 use lib.ListN.{length, getD, set, take, replicate}
+use lib.Seq.{getD-set-same, getD-set-other}
 use Rattle.std.specs.Iters.{counting}
 use Rattle.std.proofs.shelf.Lists.{length-take-le, getD-take, getD-replicate, length-replicate}
 use Rattle.std.proofs.shelf.Tests.{cases-eq, eq-eqb, ne-eqb, cond-true, cond-false}
@@ -75,6 +76,51 @@ pub run-goes : (s : ℕ → ℕ → ℕ) (n t : ℕ) (x : State) → (nearest n 
 unfolding run
 run-goes s n t x d = cond-false _ _ _ (ne-eqb _ _ d)
 
+pub run-none : (s : ℕ → ℕ → ℕ) (n : ℕ) (x : State) → run s n (n - 0) x ≡ run s n n x
+run-none s n x = ap (λ t. run s n t x) (omega arith)
+
+-- What is left of the rounds, from round r on.
+module _ (s : ℕ → ℕ → ℕ) (n r : ℕ) (x y : State) (e : run s n (n - r) x ≡ y) where
+  pub run-break : r < n → n ≡ nearest n (x .left) (x .offered .offer) n → x ≡ y
+  run-break h q =
+      let d : n - r ≡ suc (n - (r + 1)) = omega arith in
+      sym (run-stops s n (n - (r + 1)) x (sym q)) ∙ ap (λ t. run s n t x) (sym d) ∙ e
+
+  pub run-more : (k : ℕ) → r < n → k ≡ nearest n (x .left) (x .offered .offer) n → (k ≡ n → ⊥) → run s n (n - (r + 1)) (lengthened s n k x) ≡ y
+  run-more k h q ne =
+      let d : n - r ≡ suc (n - (r + 1)) = omega arith in
+      ap (λ j. run s n (n - (r + 1)) (lengthened s n j x)) q
+      ∙ sym (run-goes s n (n - (r + 1)) x (λ z. ne (q ∙ z))) ∙ ap (λ t. run s n t x) (sym d) ∙ e
+
+  pub run-all : n ≤ r → x ≡ y
+  unfolding run
+  run-all h = let d : n - r ≡ 0 = omega arith in ap (λ t. run s n t x) (sym d) ∙ e
+
+-- A round on slices: person k is next.
+module _ (n : ℕ) (l o : List ℕ) (k : ℕ) (q : k ≡ nearest n l o n) (ne : k ≡ n → ⊥) where
+  next-is : Next n l o k
+  next-is = subst (λ j. Next n l o j) (sym q) (next n l o (λ z. ne (q ∙ z)))
+
+  pub next-here : k < n
+  next-here = next-is .here
+
+  pub next-small : (c : ℕ) → ((i : ℕ) → i < n → at l i ≤ c) → at o k ≤ c
+  next-small c all = omega (arith, all k next-here, next-is .longer)
+
+  pub left-small : (c : ℕ) → length l ≡ n → ((i : ℕ) → i < n → at l i ≤ c) → (i : ℕ) → i < n → at (set l k (at o k)) i ≤ c
+  left-small c e all i h = elim (cases-eq i k) [
+    | inl z ↦ subst (λ j. at (set l k (at o k)) j ≤ c) (sym z) (omega (arith, getD-set-same l k (at o k) 0 (omega (arith, next-here)), next-small c all))
+    | inr z ↦ omega (arith, getD-set-other l k i (at o k) 0 z, all i h)
+  ]
+
+  pub round-more : (s : ℕ → ℕ → ℕ) (b f : List ℕ) (r m : ℕ) (y : State) (p w : List ℕ) → run s n (n - r) (state l b (offers o f) m) ≡ y → m ≡ r → r < n → offers p w ≡ through s n k (at o k) (offers o f) →
+      run s n (n - (r + 1)) (state (set l k (at o k)) (set b k (at f k)) (offers p w) (r + 1)) ≡ y
+  unfolding lengthened
+  round-more s b f r m y p w e em h eo =
+      ap (λ x. run s n (n - (r + 1)) (state (set l k (at o k)) (set b k (at f k)) x (r + 1))) eo
+      ∙ ap (λ j. run s n (n - (r + 1)) (state (set l k (at o k)) (set b k (at f k)) (through s n k (at o k) (offers o f)) (j + 1))) (sym em)
+      ∙ run-more s n r (state l b (offers o f) m) y e k h q ne
+
 -- Where the search ends: no offer makes a row longer, and there were fewer rounds than people.
 pub record Ended (n : ℕ) (s : ℕ → ℕ → ℕ) (u : List ℕ) (x : State) : Type 0 where
   pub last : ℕ
@@ -97,8 +143,13 @@ module _ (n : ℕ) (some : 0 < n) (few : n ≤ nobody) (s : ℕ → ℕ → ℕ)
   unfolding start
   ended fits = runs n (start s n u) 0 (started n s u fits) (omega arith)
 
+pub start-is : (s : ℕ → ℕ → ℕ) (n : ℕ) (u l b o f : List ℕ) → l ≡ take n u → b ≡ replicate n nobody → offers o f ≡ first-offers s n u n → state l b (offers o f) 0 ≡ start s n u
+unfolding start
+start-is s n u l b o f el eb eo =
+    ap (λ x. state x b (offers o f) 0) el ∙ ap (λ x. state (take n u) x (offers o f) 0) eb ∙ ap (λ x. state (take n u) (replicate n nobody) x 0) eo
+
 -- The search looks only at the slacks among the n.
-map-same : (f g : ℕ → ℕ) (n : ℕ) → ((i : ℕ) → i < n → f i ≡ g i) → map f (counting 0 n) ≡ map g (counting 0 n)
+pub map-same : (f g : ℕ → ℕ) (n : ℕ) → ((i : ℕ) → i < n → f i ≡ g i) → map f (counting 0 n) ≡ map g (counting 0 n)
 map-same f g n e =
     fill-by-all g (map f (counting 0 n)) n 0 (length-map-counting f 0 n) (λ i h. getD-map-counting f 0 n i i 0 h (omega arith) ∙ e i h)
 

@@ -9,7 +9,7 @@ ghost use Rattle.std.specs.Iters.{counting};
 ghost use Rattle.rooms.specs.Format.{most-people, most-worth, house-of};
 ghost use Rattle.rooms.specs.Rows.{Longest, signed};
 ghost use Rattle.longest.specs.Before.{nobody, Rows-shown};
-ghost use Rattle.longest.specs.Run.{at, slack, in-table, Table, offers, through, first-offers, state, nearer, run};
+ghost use Rattle.longest.specs.Run.{at, slack, in-table, Table, offers, through, first-offers, state, nearer, run, start};
 ghost use Rattle.longest.specs.Promise.{work-len, Numbered, Found, Search-ends, Shown-longest, One-longest, Around};
 use rooms::Group;
 use rooms::group::MOST_PEOPLE;
@@ -85,7 +85,7 @@ fn write_table(
     }
 }
 
-// The first offers: each person's row alone, and then a way to everybody from there.
+// The first offers: everybody alone, and then the ways from each person.
 fn first_offers(
     n: usize,
     table: &[u64],
@@ -94,10 +94,131 @@ fn first_offers(
     from: &mut [u8],
 )
     requires table { ⌜ Table n (now table) ⌝ ∗ ⌜ ((i : ℕ) → i < n → at persons i ≤ most-worth) ⌝ }
-    requires begun { ⌜ now offer ≡ take n persons ⌝ ∗ ⌜ now from ≡ replicate n nobody ⌝ }
+    requires sizes { ⌜ length (now offer) ≡ n ⌝ ∗ ⌜ length (now from) ≡ n ⌝ }
     ensures { λ _. ⌜ offers (now (offer .exit)) (now (from .exit)) ≡ first-offers (in-table (now (table .entry)) n) n persons n ⌝ }
 {
+    offer.copy_from_slice(&persons[0..n]);
+    from.fill(NOBODY);
     for k in 0..n {
         offer_through(n, table, k, persons[k], offer, from);
+    }
+}
+
+// Whether person i's offer makes their row longer, and is to be taken before that of `to`, which is n where there is none yet.
+fn is_nearer(n: usize, left: &[u64], offer: &[u64], i: usize, to: usize) -> bool
+    requires { ⌜ length (now left) ≡ n ⌝ ∗ ⌜ length (now offer) ≡ n ⌝ ∗ ⌜ i < n ⌝ ∗ ⌜ to ≤ n ⌝ }
+    ensures { λ r. ⌜ r ≡ nearer n (now (left .entry)) (now (offer .entry)) i to ⌝ }
+{
+    offer[i] < left[i] && (to == n || offer[i] < offer[to])
+}
+
+// Makes rows longer, one in a round: that of the person whose offer leaves least, until no offer makes one longer. How many rounds it took.
+fn lengthen(
+    n: usize,
+    table: &[u64],
+    left: &mut [u64],
+    before: &mut [u8],
+    offer: &mut [u64],
+    from: &mut [u8],
+) -> usize
+    requires table { ⌜ Table n (now table) ⌝ }
+    requires sizes { ⌜ length (now left) ≡ n ⌝ ∗ ⌜ length (now before) ≡ n ⌝ ∗ ⌜ length (now offer) ≡ n ⌝ ∗ ⌜ length (now from) ≡ n ⌝ }
+    requires small { ⌜ ((i : ℕ) → i < n → at (now left) i ≤ most-worth) ⌝ }
+    ensures { λ r. ⌜ state (now (left .exit)) (now (before .exit)) (offers (now (offer .exit)) (now (from .exit))) r
+        ≡ run (in-table (now (table .entry)) n) n n (state (now (left .entry)) (now (before .entry)) (offers (now (offer .entry)) (now (from .entry))) 0) ⌝ }
+{
+    let mut rounds = 0;
+    'longer: for round in 0..n {
+        let mut to = n;
+        for i in 0..n {
+            if is_nearer(n, left, offer, i, to) {
+                to = i;
+            }
+        }
+        if to == n {
+            break 'longer;
+        }
+        let rest = offer[to];
+        left[to] = rest;
+        before[to] = from[to];
+        offer_through(n, table, to, rest, offer, from);
+        rounds = round + 1;
+    }
+    rounds
+}
+
+// The search for the longest rows: what they leave of each person's number, and who stands before each. How many rounds it took.
+fn search_rows(
+    n: usize,
+    table: &[u64],
+    persons: [u64; MOST_PEOPLE],
+    left: &mut [u64],
+    before: &mut [u8],
+    offer: &mut [u64],
+    from: &mut [u8],
+) -> usize
+    requires table { ⌜ Table n (now table) ⌝ ∗ ⌜ ((i : ℕ) → i < n → at persons i ≤ most-worth) ⌝ }
+    requires sizes { ⌜ length (now left) ≡ n ⌝ ∗ ⌜ length (now before) ≡ n ⌝ ∗ ⌜ length (now offer) ≡ n ⌝ ∗ ⌜ length (now from) ≡ n ⌝ }
+    ensures { λ r. ⌜ state (now (left .exit)) (now (before .exit)) (offers (now (offer .exit)) (now (from .exit))) r
+        ≡ run (in-table (now (table .entry)) n) n n (start (in-table (now (table .entry)) n) n persons) ⌝ }
+{
+    left.copy_from_slice(&persons[0..n]);
+    before.fill(NOBODY);
+    first_offers(n, table, persons, offer, from);
+    lengthen(n, table, left, before, offer, from)
+}
+
+// What the longest row to each person takes of their number: its length.
+fn lengths(n: usize, persons: [u64; MOST_PEOPLE], left: [u64; MOST_PEOPLE]) -> [u64; MOST_PEOPLE]
+    requires { ⌜ n ≤ most-people ⌝ ∗ ⌜ ((i : ℕ) → i < n → at left i ≤ at persons i) ⌝ }
+    ensures { λ r. ⌜ r ≡ map (λ i. at persons i - at left i) (counting 0 n) ++ replicate (most-people - n) 0 ⌝ }
+{
+    let mut d = [0; MOST_PEOPLE];
+    for i in 0..n {
+        d[i] = persons[i] - left[i];
+    }
+    d
+}
+
+// The lengths d of the longest rows, and who stands before each person in them: nothing and nobody past the n people. And how many rounds it took.
+#[derive(Clone, Copy)]
+pub struct LongestRows {
+    pub d: [u64; MOST_PEOPLE],
+    pub before: [u8; MOST_PEOPLE],
+    pub rounds: usize,
+}
+
+// The longest rows, on a table of just the right length.
+fn find(
+    group: &Group,
+    n: usize,
+    rooms: &[u32],
+    persons: [u64; MOST_PEOPLE],
+    prices: [u64; MOST_PEOPLE],
+    table: &mut [u64],
+) -> LongestRows
+    requires group { ⌜ n ≡ house-of (now (now group .bytes)) .n ⌝ ∗ ⌜ 0 < n ⌝ ∗ ⌜ n ≤ most-people ⌝ }
+    requires numbered { ⌜ Numbered (house-of (now (now group .bytes))) (now rooms) persons prices ⌝ }
+    requires size { ⌜ length (now table) ≡ n * n ⌝ }
+    ensures { λ r. ⌜ Found (house-of (now (now (group .entry) .bytes))) (now (rooms .entry)) persons prices (r .d) (r .before) (r .rounds) ⌝ }
+{
+    write_table(group, n, rooms, persons, prices, table);
+    let mut left = persons;
+    let mut before = [NOBODY; MOST_PEOPLE];
+    let mut offer = persons;
+    let mut from = [NOBODY; MOST_PEOPLE];
+    let rounds = search_rows(
+        n,
+        table,
+        persons,
+        &mut left[0..n],
+        &mut before[0..n],
+        &mut offer[0..n],
+        &mut from[0..n],
+    );
+    LongestRows {
+        d: lengths(n, persons, left),
+        before,
+        rounds,
     }
 }

@@ -1,27 +1,21 @@
+use borrow.Author.Needs.{needs}
 use native.Mathlib.Omega.{arith}
 use native.Mathlib.Numerals.{add-one}
 use mathlib.Core.Path.{_≡_, refl, sym, ap, _∙_}
 use lib.ListN.{length}
-use Rattle.std.proofs.shelf.Lists.{length-take-le, length-replicate}
-use Rattle.longest.specs.Before.{nobody}
 use Rattle.longest.specs.Run.{at, in-table, offers, through, first-offers}
 use Rattle.longest.proofs.Passing.{offers-same}
 use Rattle.longest.proofs.first_offers.Needs as need
 
 pub loop-k-holds : need.loop-k-holds
 unfolding first-offers
-loop-k-holds c = offers-same (c .pre .begun .0) (c .pre .begun .1)
+loop-k-holds c = offers-same (search needs) (search needs)
 
 pub offer-through-requires : need.offer-through-requires
-offer-through-requires c κs =
-    let o = length-take-le (c .args .n) (c .args .persons) (omega (arith, c .pre .table .0 .few)) in
-    let f = length-replicate (c .args .n) nobody in
-    let p = ap length (c .pre .begun .0) in
-    let q = ap length (c .pre .begun .1) in
-    record {
-      table = c .pre .table .0;
-      sizes = (omega arith, (omega arith, (c .loop-k-test .taken, c .pre .table .1 (c .loop-k .k) (c .loop-k-test .taken))));
-    }
+offer-through-requires c κs = record {
+  table = c .pre .table .0;
+  sizes = (omega arith, (omega arith, (c .loop-k-test .taken, c .pre .table .1 (c .loop-k .k) (c .loop-k-test .taken))));
+}
 
 pub loop-k-again : need.loop-k-again
 unfolding first-offers

@@ -2,18 +2,27 @@
 use native.Mathlib.Omega.{arith}
 use mathlib.Core.Path.{_≡_, refl, sym, ap, subst, _∙_}
 use mathlib.Core.List.{List, _++_, map}
-use Prim.Native.Nat.{ℕ, _+_, _-_, _*_, _≤_, _<_}
+use mathlib.Core.Logic.{inl, inr}
+use Prim.Native.Nat.{ℕ, zero, suc, _+_, _-_, _*_, _≤_, _<_}
+use lib.IntN.{ℤ, pos, _+ℤ_}
+use lib.Signed.{_≤ℤ_}
 use lib.ListN.{length, getD, drop, take, replicate}
 use Rattle.std.specs.Iters.{counting}
-use Rattle.std.proofs.shelf.Lists.{getD-append-left, drop-replicate, length-take-le}
+use Rattle.std.proofs.shelf.Lists.{getD-append-left, getD-past, drop-replicate, length-append, length-map}
+use Rattle.std.proofs.shelf.Counted.{getD-map-counting, length-map-counting}
+use Rattle.std.proofs.shelf.Signed.{ints}
+use Rattle.std.proofs.shelf.Tests.{cases-lt}
 use Rattle.rooms.specs.House.{House, worth-at, room-of}
-use Rattle.rooms.specs.Format.{most-people, most-worth}
-use Rattle.longest.specs.Before.{nobody}
+use Rattle.rooms.specs.Format.{most-people, most-worth, Allowed}
+use Rattle.rooms.specs.Rows.{Longest, number, signed, way}
+use Rattle.longest.specs.Before.{nobody, prior, Ends, Rows-shown}
 use Rattle.longest.specs.Run.{at, slack, in-table, Table, State, run, start, state, Offers, whole-run}
 use Rattle.longest.specs.Promise.{Numbered, Found, longest-of, before-of, rounds-of}
 use Rattle.longest.proofs.Lines.{Filled}
 use Rattle.longest.proofs.Rounds.{whole-same, map-same}
-use Rattle.longest.proofs.Slacks.{left-within}
+use Rattle.longest.proofs.Slacks.{number-signed, left-within, run-shown, rounds-few}
+use Rattle.longest.proofs.Going.{shown-longest}
+use Rattle.longest.proofs.Padded.{padded-reads}
 
 module _ (h : House) (room u v : List ℕ) (q : Numbered h room u v) (n : ℕ) (e : n ≡ h .n) (few : n ≤ most-people) (table : List ℕ) (size : length table ≡ n * n)
     (filled : Filled n (slack h room u v) n table) where
@@ -52,3 +61,48 @@ module _ (h : House) (room u v : List ℕ) (q : Numbered h room u v) (n : ℕ) (
             ∙ ap (λ j. before-of h room u v ++ replicate (most-people - j) nobody) e;
         count = ap (λ (y : State). y .rounds) whole;
       }
+
+-- What reads the same is shown the same.
+ends-same : (b w : List ℕ) → ((i : ℕ) → prior w i ≡ prior b i) → (m i : ℕ) → Ends b m i → Ends w m i
+unfolding Ends
+ends-same b w q zero i e = e
+ends-same b w q (suc m) i (inl e) = inl (q i ∙ e)
+ends-same b w q (suc m) i (inr e) = inr (subst (λ k. Ends w m k) (sym (q i)) (ends-same b w q m (prior b i) e))
+
+shown-same : (h : House) (room b w : List ℕ) (d e : List ℤ) → ((i : ℕ) → number e i ≡ number d i) → ((i : ℕ) → prior w i ≡ prior b i) → Rows-shown h room d b → Rows-shown h room e w
+shown-same h room b w d e p q f = record {
+  low = λ i l. subst (λ z. pos 0 ≤ℤ z) (sym (p i)) (f .low i l);
+  comes = λ i l. elim (f .comes i l) [
+    | inl x ↦ inl (q i ∙ x .0, p i ∙ x .1)
+    | inr x ↦ inr (
+      subst (λ z. z < h .n) (sym (q i)) (x .0),
+      p i ∙ x .1 ∙ ap (λ z. z +ℤ way h room (prior b i) i) (sym (p (prior b i))) ∙ ap (λ k. number e k +ℤ way h room k i) (sym (q i)),
+    )
+  ];
+  most = λ k i hk hi. omega (arith, ints, f .most k i hk hi, p i, p k);
+  ends = λ i l. ends-same b w q (h .n) i (f .ends i l);
+}
+
+module _ (h : House) (room u v : List ℕ) (q : Numbered h room u v) (a : Allowed h) (fits : h .n ≤ length u) (d w : List ℕ) (m : ℕ) (f : Found h room u v d w m) where
+  pub found-shown : Rows-shown h room (signed d) w
+  found-shown = shown-same h room (before-of h room u v) w (signed (longest-of h room u v)) (signed d)
+      (λ i. number-signed d i ∙ ap pos (ap (λ x. at x i) (f .lengths) ∙ padded-reads (longest-of h room u v) (most-people - h .n) 0 i) ∙ sym (number-signed (longest-of h room u v) i))
+      (λ i. ap (λ x. prior x i) (f .priors) ∙ padded-reads (before-of h room u v) (most-people - h .n) nobody i)
+      (run-shown h room u v (q .certified) (a .some) (omega (arith, a .few)) fits)
+
+  pub found-longest : Longest h room (signed d)
+  found-longest = shown-longest h room w (signed d) (omega (arith, a .few))
+      (omega (arith, length-map d pos, ap length (f .lengths), length-append (longest-of h room u v) (replicate (most-people - h .n) 0), length-map-counting (λ i. at u i - at (whole-run h room u v .left) i) 0 (h .n)))
+      found-shown
+
+  pub found-high : (i : ℕ) → at d i ≤ most-worth
+  found-high i =
+      let e = ap (λ x. at x i) (f .lengths) ∙ padded-reads (longest-of h room u v) (most-people - h .n) 0 i in
+      let g = λ (j : ℕ). at u j - at (whole-run h room u v .left) j in
+      elim (cases-lt i (h .n)) [
+        | inl l ↦ omega (arith, e, getD-map-counting g 0 (h .n) i i 0 l (omega arith), q .persons i l)
+        | inr l ↦ omega (arith, e, getD-past (longest-of h room u v) i 0 (omega (arith, length-map-counting g 0 (h .n))))
+      ]
+
+  pub found-few : m < h .n
+  found-few = omega (arith, f .count, rounds-few h room u v (q .certified) (a .some) (omega (arith, a .few)) fits)

@@ -222,3 +222,35 @@ fn find(
         rounds,
     }
 }
+
+// The longest rows of a sharing with numbers that show it best. All else is done on work, of which the first work_len(n) are 0 after.
+pub fn longest_rows(
+    group: &Group,
+    rooms: &[u32],
+    persons: [u64; MOST_PEOPLE],
+    prices: [u64; MOST_PEOPLE],
+    work: &mut [u64],
+) -> LongestRows
+    requires numbered { ⌜ Numbered (house-of (now (now group .bytes))) (now rooms) persons prices ⌝ }
+    requires room { ⌜ work-len (house-of (now (now group .bytes)) .n) ≤ length (now work) ⌝ }
+    ensures found { λ r. ⌜ Found (house-of (now (now (group .entry) .bytes))) (now (rooms .entry)) persons prices (r .d) (r .before) (r .rounds) ⌝ }
+    ensures shown { λ r. ⌜ Rows-shown (house-of (now (now (group .entry) .bytes))) (now (rooms .entry)) (signed (r .d)) (r .before) ⌝ }
+    ensures longest { λ r. ⌜ Longest (house-of (now (now (group .entry) .bytes))) (now (rooms .entry)) (signed (r .d)) ⌝ }
+    ensures high { λ r. ⌜ ((i : ℕ) → at (r .d) i ≤ most-worth) ⌝ }
+    ensures few { λ r. ⌜ r .rounds < house-of (now (now (group .entry) .bytes)) .n ⌝ }
+    ensures clean { λ _. ⌜ now (work .exit) ≡ replicate (work-len (house-of (now (now (group .entry) .bytes)) .n)) 0 ++ drop (work-len (house-of (now (now (group .entry) .bytes)) .n)) (now (work .entry)) ⌝ }
+{
+    let n = group.count();
+    let needed = work_len(n);
+    let found = find(group, n, rooms, persons, prices, &mut work[0..needed]);
+    work[0..needed].fill(0);
+    found
+}
+
+// What holds of rows of ways and of this search, whatever the house.
+pub fn rows_stand()
+    ensures around { λ _. ⌜ Around ⌝ }
+    ensures shown { λ _. ⌜ Shown-longest ⌝ }
+    ensures one { λ _. ⌜ One-longest ⌝ }
+    ensures ends { λ _. ⌜ Search-ends ⌝ }
+{}

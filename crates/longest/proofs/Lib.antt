@@ -7,3 +7,4 @@ mod Passing
 mod Lines
 mod Padded
 mod Outcome
+mod Checked

@@ -2,7 +2,7 @@
 // who stands before them in it.
 ghost use mathlib.Core.Path.{_≡_};
 ghost use mathlib.Core.Bool.{true};
-ghost use mathlib.Core.List.{map, _++_};
+ghost use mathlib.Core.List.{map, _++_, _∷_};
 ghost use Prim.Native.Nat.{ℕ, _+_, _-_, _*_, _<_, _≤_};
 ghost use lib.ListN.{length, drop, take, replicate};
 ghost use Rattle.std.specs.Iters.{counting};
@@ -24,6 +24,46 @@ pub fn work_len(n: usize) -> usize
 {
     n * n
 }
+
+// The lengths d of the longest rows, and who stands before each person in them: nothing and nobody past the n people. And how many rounds it took.
+#[derive(Clone, Copy)]
+pub struct LongestRows {
+    pub d: [u64; MOST_PEOPLE],
+    pub before: [u8; MOST_PEOPLE],
+    pub rounds: usize,
+}
+
+// The longest rows of a sharing with numbers that show it best. All else is done on work, of which the first work_len(n) are 0 after.
+pub fn longest_rows(
+    group: &Group,
+    rooms: &[u32],
+    persons: [u64; MOST_PEOPLE],
+    prices: [u64; MOST_PEOPLE],
+    work: &mut [u64],
+) -> LongestRows
+    requires numbered { ⌜ Numbered (house-of (now (now group .bytes))) (now rooms) persons prices ⌝ }
+    requires enough { ⌜ work-len (house-of (now (now group .bytes)) .n) ≤ length (now work) ⌝ }
+    ensures found { λ r. ⌜ Found (house-of (now (now (group .entry) .bytes))) (now (rooms .entry)) persons prices (r .d) (r .before) (r .rounds) ⌝ }
+    ensures shown { λ r. ⌜ Rows-shown (house-of (now (now (group .entry) .bytes))) (now (rooms .entry)) (signed (r .d)) (r .before) ⌝ }
+    ensures longest { λ r. ⌜ Longest (house-of (now (now (group .entry) .bytes))) (now (rooms .entry)) (signed (r .d)) ⌝ }
+    ensures high { λ r. ⌜ ((i : ℕ) → at (r .d) i ≤ most-worth) ⌝ }
+    ensures few { λ r. ⌜ r .rounds < house-of (now (now (group .entry) .bytes)) .n ⌝ }
+    ensures clean { λ _. ⌜ now (work .exit) ≡ replicate (work-len (house-of (now (now (group .entry) .bytes)) .n)) 0 ++ drop (work-len (house-of (now (now (group .entry) .bytes)) .n)) (now (work .entry)) ⌝ }
+{
+    let n = group.count();
+    let needed = work_len(n);
+    let found = find(group, n, rooms, persons, prices, &mut work[0..needed]);
+    work[0..needed].fill(0);
+    found
+}
+
+// What holds of rows of ways and of this search, whatever the house.
+pub fn rows_stand()
+    ensures around { λ _. ⌜ Around ⌝ }
+    ensures shown { λ _. ⌜ Shown-longest ⌝ }
+    ensures one { λ _. ⌜ One-longest ⌝ }
+    ensures ends { λ _. ⌜ Search-ends ⌝ }
+{}
 
 // One person's line of the table: the slack of the way to them from each person, by what each room is worth to them.
 fn write_slacks(
@@ -180,14 +220,6 @@ fn lengths(n: usize, persons: [u64; MOST_PEOPLE], left: [u64; MOST_PEOPLE]) -> [
     d
 }
 
-// The lengths d of the longest rows, and who stands before each person in them: nothing and nobody past the n people. And how many rounds it took.
-#[derive(Clone, Copy)]
-pub struct LongestRows {
-    pub d: [u64; MOST_PEOPLE],
-    pub before: [u8; MOST_PEOPLE],
-    pub rounds: usize,
-}
-
 // The longest rows, on a table of just the right length.
 fn find(
     group: &Group,
@@ -223,34 +255,107 @@ fn find(
     }
 }
 
-// The longest rows of a sharing with numbers that show it best. All else is done on work, of which the first work_len(n) are 0 after.
-pub fn longest_rows(
-    group: &Group,
-    rooms: &[u32],
-    persons: [u64; MOST_PEOPLE],
-    prices: [u64; MOST_PEOPLE],
-    work: &mut [u64],
-) -> LongestRows
-    requires numbered { ⌜ Numbered (house-of (now (now group .bytes))) (now rooms) persons prices ⌝ }
-    requires room { ⌜ work-len (house-of (now (now group .bytes)) .n) ≤ length (now work) ⌝ }
-    ensures found { λ r. ⌜ Found (house-of (now (now (group .entry) .bytes))) (now (rooms .entry)) persons prices (r .d) (r .before) (r .rounds) ⌝ }
-    ensures shown { λ r. ⌜ Rows-shown (house-of (now (now (group .entry) .bytes))) (now (rooms .entry)) (signed (r .d)) (r .before) ⌝ }
-    ensures longest { λ r. ⌜ Longest (house-of (now (now (group .entry) .bytes))) (now (rooms .entry)) (signed (r .d)) ⌝ }
-    ensures high { λ r. ⌜ ((i : ℕ) → at (r .d) i ≤ most-worth) ⌝ }
-    ensures few { λ r. ⌜ r .rounds < house-of (now (now (group .entry) .bytes)) .n ⌝ }
-    ensures clean { λ _. ⌜ now (work .exit) ≡ replicate (work-len (house-of (now (now (group .entry) .bytes)) .n)) 0 ++ drop (work-len (house-of (now (now (group .entry) .bytes)) .n)) (now (work .entry)) ⌝ }
-{
-    let n = group.count();
-    let needed = work_len(n);
-    let found = find(group, n, rooms, persons, prices, &mut work[0..needed]);
-    work[0..needed].fill(0);
-    found
-}
+#[cfg(test)]
+mod tests {
+    use super::*;
+    use rooms::refusal::RefusalDebug;
+    use std::test::*;
 
-// What holds of rows of ways and of this search, whatever the house.
-pub fn rows_stand()
-    ensures around { λ _. ⌜ Around ⌝ }
-    ensures shown { λ _. ⌜ Shown-longest ⌝ }
-    ensures one { λ _. ⌜ One-longest ⌝ }
-    ensures ends { λ _. ⌜ Search-ends ⌝ }
-{}
+    // Four numbers, and nothing past them.
+    fn four(a: u64, b: u64, c: u64, d: u64) -> [u64; MOST_PEOPLE]
+        ensures { λ r. ⌜ r ≡ a ∷ (b ∷ (c ∷ (d ∷ replicate 20 0))) ⌝ }
+    {
+        let mut x = [0; MOST_PEOPLE];
+        x[0] = a;
+        x[1] = b;
+        x[2] = c;
+        x[3] = d;
+        x
+    }
+
+    // The house of three that was worked by hand: person 2 stands before person 1.
+    #[test]
+    fn worked_house() -> Result<(), Fail> {
+        let bytes =
+            b"\x03\x90\x5f\x01\0\x60\xea\0\0\x30\x75\0\0\x20\x4e\0\0\x50\xc3\0\0\x40\x9c\0\0\x30\x75\0\0\xd8\xd6\0\0\xb8\x88\0\0\xa8\x61\0\0";
+        let persons = four(10000, 15000, 10000, 0);
+        let prices = four(50000, 25000, 15000, 0);
+        let mut work = [7; 10];
+        Group::validate(bytes)?;
+        let found = longest_rows(&Group::new(bytes), &[0, 2, 1], persons, prices, &mut work);
+        check(found.d[0] == 0 && found.d[1] == 5000 && found.d[2] == 0)?;
+        check(found.before[0] == 255 && found.before[1] == 2 && found.before[2] == 255)?;
+        check(found.d[3] == 0 && found.before[3] == NOBODY && found.rounds == 1)?;
+        check(work[0] == 0 && work[8] == 0 && work[9] == 7)
+    }
+
+    // All worths are 10, so every way is nothing, and everybody stands alone.
+    #[test]
+    fn equal_worths() -> Result<(), Fail> {
+        let bytes =
+            b"\x03\0\0\0\0\x0a\0\0\0\x0a\0\0\0\x0a\0\0\0\x0a\0\0\0\x0a\0\0\0\x0a\0\0\0\x0a\0\0\0\x0a\0\0\0\x0a\0\0\0";
+        let persons = four(10, 10, 10, 0);
+        let prices = four(0, 0, 0, 0);
+        let mut work = [7; 10];
+        Group::validate(bytes)?;
+        let found = longest_rows(&Group::new(bytes), &[2, 0, 1], persons, prices, &mut work);
+        check(found.d[0] == 0 && found.d[1] == 0 && found.d[2] == 0)?;
+        check(found.before[0] == 255 && found.before[1] == 255 && found.before[2] == 255)?;
+        check(found.d[3] == 0 && found.before[3] == NOBODY && found.rounds == 0)?;
+        check(work[0] == 0 && work[8] == 0 && work[9] == 7)
+    }
+
+    // The longest row holds everybody, and each round lengthens one more: 10 0 0 0 / 11 11 0 0 / 0 12 12 0 / 0 0 13 13.
+    #[test]
+    fn whole_row() -> Result<(), Fail> {
+        let bytes =
+            b"\x04\0\0\0\0\x0a\0\0\0\0\0\0\0\0\0\0\0\0\0\0\0\x0b\0\0\0\x0b\0\0\0\0\0\0\0\0\0\0\0\0\0\0\0\x0c\0\0\0\x0c\0\0\0\0\0\0\0\0\0\0\0\0\0\0\0\x0d\0\0\0\x0d\0\0\0";
+        let persons = four(5, 6, 7, 8);
+        let prices = four(5, 5, 5, 5);
+        let mut work = [7; 17];
+        Group::validate(bytes)?;
+        let found = longest_rows(
+            &Group::new(bytes),
+            &[0, 1, 2, 3],
+            persons,
+            prices,
+            &mut work,
+        );
+        check(found.d[0] == 0 && found.d[1] == 1 && found.d[2] == 2 && found.d[3] == 3)?;
+        check(
+            found.before[0] == 255
+                && found.before[1] == 0
+                && found.before[2] == 1
+                && found.before[3] == 2,
+        )?;
+        check(found.d[4] == 0 && found.before[4] == NOBODY && found.rounds == 3)?;
+        check(work[0] == 0 && work[15] == 0 && work[16] == 7)
+    }
+
+    // Two see 10 in every room and two see 12: every row around has the length nothing, and going back still ends.
+    #[test]
+    fn circles() -> Result<(), Fail> {
+        let bytes =
+            b"\x04\0\0\0\0\x0a\0\0\0\x0a\0\0\0\x0a\0\0\0\x0a\0\0\0\x0a\0\0\0\x0a\0\0\0\x0a\0\0\0\x0a\0\0\0\x0c\0\0\0\x0c\0\0\0\x0c\0\0\0\x0c\0\0\0\x0c\0\0\0\x0c\0\0\0\x0c\0\0\0\x0c\0\0\0";
+        let persons = four(10, 10, 12, 12);
+        let prices = four(0, 0, 0, 0);
+        let mut work = [7; 17];
+        Group::validate(bytes)?;
+        let found = longest_rows(
+            &Group::new(bytes),
+            &[0, 1, 2, 3],
+            persons,
+            prices,
+            &mut work,
+        );
+        check(found.d[0] == 0 && found.d[1] == 0 && found.d[2] == 2 && found.d[3] == 2)?;
+        check(
+            found.before[0] == 255
+                && found.before[1] == 255
+                && found.before[2] == 0
+                && found.before[3] == 0,
+        )?;
+        check(found.d[4] == 0 && found.before[4] == NOBODY && found.rounds == 2)?;
+        check(work[0] == 0 && work[15] == 0 && work[16] == 7)
+    }
+}

@@ -11,7 +11,7 @@ use Rattle.longest.proofs.Outcome.{found-shown, found-longest, found-high, fou
 use Rattle.longest.proofs.longest_rows.Needs as need
 
 pub part-find-end : need.part-find-end
-part-find-end c = omega (arith, c .work-len-needed .ensures ∙ ap work-len (c .count-n .ensures .people), c .pre .room)
+part-find-end c = omega (arith, c .work-len-needed .ensures ∙ ap work-len (c .count-n .ensures .people), c .pre .enough)
 
 pub find-found-requires : need.find-found-requires
 find-found-requires c κs =
@@ -20,7 +20,7 @@ find-found-requires c κs =
     record {
       group = (c .count-n .ensures .people, (omega (arith, a .some), omega (arith, a .few)));
       numbered = c .pre .numbered;
-      size = length-take-le (c .work-len-needed .result - 0) (c .args .work .now) (omega (arith, e, c .pre .room)) ∙ omega (arith, c .work-len-needed .ensures);
+      size = length-take-le (c .work-len-needed .result - 0) (c .args .work .now) (omega (arith, e, c .pre .enough)) ∙ omega (arith, c .work-len-needed .ensures);
     }
 
 pub returns : need.returns

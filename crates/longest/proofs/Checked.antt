@@ -1,15 +1,15 @@
 -- Whether a sharing and its numbers are as wanted, computed: for houses that are written out.
 use native.Mathlib.Omega.{arith}
-use mathlib.Core.Path.{_≡_, refl, sym, ap, _∙_}
+use mathlib.Core.Path.{_≡_, ap, _∙_}
 use mathlib.Core.Logic.{inl, inr}
-use mathlib.Core.Bool.{Bool, true, false, not, _&&_, _||_}
+use mathlib.Core.Bool.{Bool, true, not, _&&_, _||_}
 use mathlib.Core.List.{List}
 use Prim.Native.Nat.{ℕ, zero, suc, _+_, _≤_, _<_}
 use lib.Dec.{leb, ltb, eqb}
 use lib.ListN.{length}
 use Rattle.std.proofs.shelf.Signed.{ints}
 use Rattle.std.proofs.shelf.Tests.{and-parts, or-cases, not-true, leb-true, ltb-true, eqb-true, eqb-false, cases-eq}
-use Rattle.rooms.specs.House.{House, Housed, worth-at, room-of, value}
+use Rattle.rooms.specs.House.{House, worth-at, room-of, value}
 use Rattle.rooms.specs.Format.{most-worth, house-of}
 use Rattle.longest.specs.Run.{at}
 use Rattle.longest.specs.Promise.{Numbered, work-len}

@@ -1,22 +1,22 @@
 -- Rows grow one at a time, and nobody's grows twice: what stays true from round to round.
 use native.Mathlib.Omega.{arith}
 use mathlib.Core.Path.{_≡_, refl, sym, _∙_, ap, subst}
-use mathlib.Core.Logic.{_⊎_, inl, inr, _≢_, ⊎-elim}
-use mathlib.Core.List.{List, map}
-use mathlib.Core.Bool.{Bool, true, false, cond}
-use Prim.Native.Nat.{ℕ, zero, suc, _+_, _-_, _≤_, _<_}
+use mathlib.Core.Logic.{_⊎_, inl, inr, _≢_}
+use mathlib.Core.List.{List}
+use mathlib.Core.Bool.{true, cond}
+use Prim.Native.Nat.{ℕ, zero, suc, _+_, _≤_, _<_}
 use lib.Dec.{eqb, ltb}
-use lib.ListN.{length, getD, set, take, replicate}
+use lib.ListN.{length, getD, set}
 use lib.Seq.{getD-set-same, getD-set-other}
 use Rattle.std.specs.shelf.Lists.{countBy}
-use Rattle.std.proofs.shelf.Lists.{getD-past, length-set, length-take-le, getD-take, getD-replicate, length-replicate}
+use Rattle.std.proofs.shelf.Lists.{getD-past, length-set}
 use Rattle.std.proofs.shelf.Tests.{cases-eq, cases-lt, eq-eqb, ne-eqb}
-use Rattle.std.proofs.shelf.Sums.{sumBy-set, getD-le-sumBy, countBy-le-length}
+use Rattle.std.proofs.shelf.Sums.{sumBy-set, getD-le-sumBy}
 use Rattle.std.proofs.shelf.Counted.{getD-map-counting, length-map-counting}
 use Rattle.std.proofs.shelf.Ways.{tells}
-use Rattle.longest.specs.Before.{nobody, prior, Ends}
-use Rattle.longest.specs.Run.{at, Offers, offers, through, first-offers, State, state, lengthened, run, start, nearest}
-use Rattle.longest.proofs.Nearest.{Next, next, nothing-longer}
+use Rattle.rooms.specs.Before.{nobody, prior, Ends}
+use Rattle.longest.specs.Run.{at, offers, through}
+use Rattle.longest.proofs.Nearest.{Next}
 
 -- What the offers are worth: none is above what a row through anybody below m leaves, and one below what is left comes from a person it is made by.
 pub record Offered (n : ℕ) (s : ℕ → ℕ → ℕ) (m : ℕ) (l o f : List ℕ) : Type 0 where

@@ -1,10 +1,9 @@
 mod Nearest
 mod Growth
 mod Rounds
-mod Going
-mod Slacks
+pub mod Slacks
 mod Passing
 mod Lines
-mod Padded
+pub mod Padded
 mod Outcome
-mod Checked
+pub mod Checked

@@ -1,8 +1,8 @@
 -- A table that is written line by line.
 use native.Mathlib.Omega.{arith}
 use native.Mathlib.Nat.{suc-mul}
-use mathlib.Core.Path.{_≡_, refl, sym, ap, _∙_}
-use mathlib.Core.Logic.{_⊎_, inl, inr}
+use mathlib.Core.Path.{_≡_, ap, _∙_}
+use mathlib.Core.Logic.{inl, inr}
 use mathlib.Core.List.{List, _++_, map}
 use Prim.Native.Nat.{ℕ, _+_, _-_, _*_, _≤_, _<_}
 use lib.ListN.{length, take, drop, length-take, length-drop}
@@ -11,7 +11,7 @@ use Rattle.std.proofs.shelf.Bits.{mul-le}
 use Rattle.std.proofs.shelf.Tests.{cases-lt}
 use Rattle.std.proofs.shelf.Lists.{getD-append-left, getD-append-right, getD-take, length-take-le}
 use Rattle.std.proofs.shelf.Counted.{getD-map-counting}
-use Rattle.rooms.specs.House.{House, worth-at, room-of}
+use Rattle.rooms.specs.House.{House, worth-at}
 use Rattle.longest.specs.Run.{at, in-table, slack}
 
 -- The first m lines hold s.

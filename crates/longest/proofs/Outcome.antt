@@ -1,27 +1,27 @@
 -- What is handed back: the run's, in arrays.
 use native.Mathlib.Omega.{arith}
-use mathlib.Core.Path.{_≡_, refl, sym, ap, subst, _∙_}
+use mathlib.Core.Path.{_≡_, sym, ap, subst, _∙_}
 use mathlib.Core.List.{List, _++_, map}
 use mathlib.Core.Logic.{inl, inr}
-use Prim.Native.Nat.{ℕ, zero, suc, _+_, _-_, _*_, _≤_, _<_}
+use Prim.Native.Nat.{ℕ, zero, suc, _-_, _*_, _≤_, _<_}
 use lib.IntN.{ℤ, pos, _+ℤ_}
 use lib.Signed.{_≤ℤ_}
-use lib.ListN.{length, getD, drop, take, replicate}
+use lib.ListN.{length, drop, replicate}
 use Rattle.std.specs.Iters.{counting}
 use Rattle.std.proofs.shelf.Lists.{getD-append-left, getD-past, drop-replicate, length-append, length-map}
 use Rattle.std.proofs.shelf.Counted.{getD-map-counting, length-map-counting}
 use Rattle.std.proofs.shelf.Signed.{ints}
 use Rattle.std.proofs.shelf.Tests.{cases-lt}
-use Rattle.rooms.specs.House.{House, worth-at, room-of}
+use Rattle.rooms.specs.House.{House, room-of}
 use Rattle.rooms.specs.Format.{most-people, most-worth, Allowed}
 use Rattle.rooms.specs.Rows.{Longest, number, signed, way}
-use Rattle.longest.specs.Before.{nobody, prior, Ends, Rows-shown}
+use Rattle.rooms.specs.Before.{nobody, prior, Ends, Rows-shown}
 use Rattle.longest.specs.Run.{at, slack, in-table, Table, State, run, start, state, Offers, whole-run}
-use Rattle.longest.specs.Promise.{Numbered, Found, longest-of, before-of, rounds-of}
+use Rattle.longest.specs.Promise.{Numbered, Found, longest-of, before-of}
 use Rattle.longest.proofs.Lines.{Filled}
 use Rattle.longest.proofs.Rounds.{whole-same, map-same}
 use Rattle.longest.proofs.Slacks.{number-signed, left-within, run-shown, rounds-few}
-use Rattle.longest.proofs.Going.{shown-longest}
+use Rattle.rooms.proofs.Before.{shown-longest}
 use Rattle.longest.proofs.Padded.{padded-reads}
 
 module _ (h : House) (room u v : List ℕ) (q : Numbered h room u v) (n : ℕ) (e : n ≡ h .n) (few : n ≤ most-people) (table : List ℕ) (size : length table ≡ n * n)
@@ -77,6 +77,7 @@ shown-same h room b w d e p q f = record {
     | inr x ↦ inr (
       subst (λ z. z < h .n) (sym (q i)) (x .0),
       p i ∙ x .1 ∙ ap (λ z. z +ℤ way h room (prior b i) i) (sym (p (prior b i))) ∙ ap (λ k. number e k +ℤ way h room k i) (sym (q i)),
+      λ z. x .2 (sym (q i) ∙ z),
     )
   ];
   most = λ k i hk hi. omega (arith, ints, f .most k i hk hi, p i, p k);
@@ -91,7 +92,7 @@ module _ (h : House) (room u v : List ℕ) (q : Numbered h room u v) (a : Allowe
       (run-shown h room u v (q .certified) (a .some) (omega (arith, a .few)) fits)
 
   pub found-longest : Longest h room (signed d)
-  found-longest = shown-longest h room w (signed d) (omega (arith, a .few))
+  found-longest = shown-longest h room w (signed d)
       (omega (arith, length-map d pos, ap length (f .lengths), length-append (longest-of h room u v) (replicate (most-people - h .n) 0), length-map-counting (λ i. at u i - at (whole-run h room u v .left) i) 0 (h .n)))
       found-shown
 

@@ -1,19 +1,19 @@
 -- The search from its start to its end.
 use native.Mathlib.Omega.{arith}
 use mathlib.Core.Path.{_≡_, refl, sym, _∙_, ap, subst}
-use mathlib.Core.Logic.{_⊎_, inl, inr, _≢_}
+use mathlib.Core.Logic.{inl, inr}
 use mathlib.Core.List.{List, map}
-use mathlib.Core.Bool.{Bool, true, false, cond}
+use mathlib.Core.Bool.{cond}
 use Prim.Native.Nat.{ℕ, zero, suc, _+_, _-_, _≤_, _<_}
 use lib.Dec.{eqb, ltb}
-use lib.ListN.{length, getD, set, take, replicate}
+use lib.ListN.{length, set, take, replicate}
 use lib.Seq.{getD-set-same, getD-set-other}
 use Rattle.std.specs.Iters.{counting}
 use Rattle.std.proofs.shelf.Lists.{length-take-le, getD-take, getD-replicate, length-replicate}
 use Rattle.std.proofs.shelf.Tests.{cases-eq, eq-eqb, ne-eqb, cond-true, cond-false}
 use Rattle.std.proofs.shelf.Sums.{countBy-le-length}
 use Rattle.std.proofs.shelf.Counted.{getD-map-counting, length-map-counting, fill-by-all}
-use Rattle.longest.specs.Before.{nobody, prior, Ends}
+use Rattle.rooms.specs.Before.{nobody, Ends}
 use Rattle.longest.specs.Run.{at, Offers, offers, through, first-offers, State, state, lengthened, run, start, nearest}
 use Rattle.longest.proofs.Nearest.{Next, next, nothing-longer}
 use Rattle.longest.proofs.Growth.{Offered, Grown, lower, through-wide, through-whence, fewer, grows}

@@ -1,21 +1,20 @@
 -- What the search finds, in the lengths of ways: a way is what the numbers rise on it, less its slack.
 use native.Mathlib.Omega.{arith}
-use mathlib.Core.Path.{_≡_, refl, sym, _∙_, ap, subst}
-use mathlib.Core.Logic.{_⊎_, inl, inr}
-use mathlib.Core.List.{List, [], _∷_, map}
+use mathlib.Core.Path.{_≡_, refl, subst}
+use mathlib.Core.Logic.{inl, inr}
+use mathlib.Core.List.{List, [], _∷_}
 use Prim.Native.Nat.{ℕ, zero, suc, _+_, _-_, _≤_, _<_}
-use lib.IntN.{ℤ, pos, _+ℤ_, _-ℤ_}
+use lib.IntN.{pos, _+ℤ_}
 use lib.Signed.{_≤ℤ_}
-use lib.ListN.{length, getD}
-use Rattle.std.specs.Iters.{counting}
+use lib.ListN.{length}
 use Rattle.std.proofs.shelf.Signed.{ints}
 use Rattle.std.proofs.shelf.Counted.{getD-map-counting}
 use Rattle.rooms.specs.House.{House, worth-at, room-of, value}
 use Rattle.rooms.specs.Rows.{Certified, number, signed, way}
-use Rattle.longest.specs.Before.{nobody, prior, Ends, Comes, Rows-shown}
-use Rattle.longest.specs.Run.{at, slack, State, run, start, whole-run}
-use Rattle.longest.specs.Promise.{longest-of, before-of, rounds-of, Search-ends}
-use Rattle.longest.proofs.Growth.{Since, Grown, ends-up, fewer}
+use Rattle.rooms.specs.Before.{nobody, prior, Ends, Comes, Rows-shown}
+use Rattle.longest.specs.Run.{at, slack, whole-run}
+use Rattle.longest.specs.Promise.{longest-of, before-of, rounds-of, Search-ends, One-longest}
+use Rattle.longest.proofs.Growth.{ends-up, fewer}
 use Rattle.longest.proofs.Rounds.{Ended, ended}
 
 -- A natural number of a list, as a signed one.
@@ -53,7 +52,11 @@ module _ (h : House) (room u v : List ℕ) (c : Certified h room (signed u) (sig
     comes : (i : ℕ) → i < h .n → Comes h room (signed (longest-of h room u v)) (before-of h room u v) i
     comes i l = elim (end .grown .since i l) [
       | inl p ↦ inl (p .0, omega (arith, ints, number-is i l, p .1))
-      | inr p ↦ inr (p .0, omega (arith, ints, number-is i l, number-is (prior (before-of h room u v) i) (p .0), way-is (prior (before-of h room u v) i) i (p .0) l, p .1))
+      | inr p ↦ inr (
+        p .0,
+        omega (arith, ints, number-is i l, number-is (prior (before-of h room u v) i) (p .0), way-is (prior (before-of h room u v) i) i (p .0) l, p .1),
+        λ e. omega (arith, p .0),
+      )
     ]
 
     -- i has left at most what is offered, and that is at most what a row through k leaves.
@@ -75,3 +78,10 @@ module _ (h : House) (room u v : List ℕ) (c : Certified h room (signed u) (sig
 
 pub search-ends : Search-ends
 search-ends h room u v some few fits c = (run-shown h room u v c some few fits, rounds-few h room u v c some few fits)
+
+-- Each is the length of a row, and so at most the other.
+pub one-longest : One-longest
+one-longest h room d e p q i l =
+    let x = p .reached i l in
+    let y = q .reached i l in
+    omega (arith, ints, x .2, y .2, q .most i (x .0) l (x .1), p .most i (y .0) l (y .1))

@@ -1,3 +1,2 @@
-pub mod Before
 pub mod Run
 pub mod Promise

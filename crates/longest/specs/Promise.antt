@@ -2,14 +2,13 @@
 use mathlib.Core.Path.{_≡_}
 use mathlib.Core.List.{List, _++_, map}
 use Prim.Native.Nat.{ℕ, _-_, _*_, _≤_, _<_}
-use lib.IntN.{ℤ, pos, _+ℤ_}
-use lib.Signed.{_≤ℤ_}
+use lib.IntN.{ℤ}
 use lib.ListN.{length, replicate}
 use Rattle.std.specs.Iters.{counting}
 use Rattle.rooms.specs.House.{House}
 use Rattle.rooms.specs.Format.{most-people, most-worth}
-use Rattle.rooms.specs.Rows.{Certified, Row, Longest, number, signed, way, long, begin}
-use Rattle.longest.specs.Before.{nobody, Rows-shown}
+use Rattle.rooms.specs.Rows.{Certified, Longest, number, signed, way}
+use Rattle.rooms.specs.Before.{nobody, Rows-shown}
 use Rattle.longest.specs.Run.{at, whole-run}
 
 -- How many numbers of work n people take: a slack for each way.
@@ -45,17 +44,6 @@ Search-ends =
     (h : House) (room u v : List ℕ) → 0 < h .n → h .n ≤ nobody → h .n ≤ length u → Certified h room (signed u) (signed v) →
     Rows-shown h room (signed (longest-of h room u v)) (before-of h room u v) × (rounds-of h room u v < h .n)
 
--- Whatever is shown so, by whomever, is longest: each number is the length of a row in which nobody stands twice, and no such row is longer.
-abbrev pub Shown-longest : Type 0
-Shown-longest =
-    (h : House) (room before : List ℕ) (d : List ℤ) → h .n ≤ nobody → h .n ≤ length d → Rows-shown h room d before → Longest h room d
-
 -- There is one list of the longest lengths.
 abbrev pub One-longest : Type 0
 One-longest = (h : House) (room : List ℕ) (d e : List ℤ) → Longest h room d → Longest h room e → (i : ℕ) → i < h .n → number d i ≡ number e i
-
--- No row around has a length above nothing: a row that ends at i, and then the way from i to where it began.
-abbrev pub Around : Type 0
-Around =
-    (h : House) (room : List ℕ) (u v : List ℤ) → Certified h room u v →
-    (i : ℕ) (xs : List ℕ) → Row (h .n) i xs → (long h room i xs +ℤ way h room i (begin i xs)) ≤ℤ pos 0

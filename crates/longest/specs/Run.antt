@@ -8,7 +8,7 @@ use lib.ListN.{length, getD, set, take, replicate}
 use Rattle.std.specs.Iters.{counting}
 use Rattle.rooms.specs.House.{House, worth-at, room-of}
 use Rattle.rooms.specs.Format.{most-people, most-worth}
-use Rattle.longest.specs.Before.{nobody}
+use Rattle.rooms.specs.Before.{nobody}
 
 -- A natural number of a list of them.
 abbrev pub at : List ℕ → ℕ → ℕ

@@ -1,16 +1,15 @@
 // The longest rows of ways among people: for a sharing of highest joint worth, the length of the longest row of ways that ends at each person, and
 // who stands before them in it.
 ghost use mathlib.Core.Path.{_≡_};
-ghost use mathlib.Core.Bool.{true};
 ghost use mathlib.Core.List.{map, _++_, _∷_};
 ghost use Prim.Native.Nat.{ℕ, _+_, _-_, _*_, _<_, _≤_};
 ghost use lib.ListN.{length, drop, take, replicate};
 ghost use Rattle.std.specs.Iters.{counting};
 ghost use Rattle.rooms.specs.Format.{most-people, most-worth, house-of};
 ghost use Rattle.rooms.specs.Rows.{Longest, signed};
-ghost use Rattle.longest.specs.Before.{nobody, Rows-shown};
+ghost use Rattle.rooms.specs.Before.{nobody, Rows-shown};
 ghost use Rattle.longest.specs.Run.{at, slack, in-table, Table, offers, through, first-offers, state, nearer, run, start};
-ghost use Rattle.longest.specs.Promise.{work-len, Numbered, Found, Search-ends, Shown-longest, One-longest, Around};
+ghost use Rattle.longest.specs.Promise.{work-len, Numbered, Found, Search-ends, One-longest};
 use rooms::Group;
 use rooms::group::MOST_PEOPLE;
 
@@ -22,7 +21,7 @@ pub fn work_len(n: usize) -> usize
     requires { ⌜ n ≤ most-people ⌝ }
     ensures { λ r. ⌜ r ≡ work-len n ⌝ }
 {
-    n * n
+    n * n // a slack for each way
 }
 
 // The lengths d of the longest rows, and who stands before each person in them: nothing and nobody past the n people. And how many rounds it took.
@@ -57,12 +56,10 @@ pub fn longest_rows(
     found
 }
 
-// What holds of rows of ways and of this search, whatever the house.
+// What holds of the search and of the longest rows, whatever the house.
 pub fn rows_stand()
-    ensures around { λ _. ⌜ Around ⌝ }
-    ensures shown { λ _. ⌜ Shown-longest ⌝ }
-    ensures one { λ _. ⌜ One-longest ⌝ }
     ensures ends { λ _. ⌜ Search-ends ⌝ }
+    ensures one { λ _. ⌜ One-longest ⌝ }
 {}
 
 // One person's line of the table: the slack of the way to them from each person, by what each room is worth to them.

@@ -1,7 +1,6 @@
 use borrow.Author.Needs.{needs}
 use native.Mathlib.Omega.{arith}
-use mathlib.Core.Path.{_≡_, refl}
-use Rattle.std.proofs.shelf.Lists.{length-take-le}
+use mathlib.Core.Path.{refl}
 use Rattle.longest.proofs.Outcome.{table-of, within, found}
 use Rattle.longest.proofs.find.Needs as need
 

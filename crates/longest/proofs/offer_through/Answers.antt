@@ -1,8 +1,5 @@
 use native.Mathlib.Omega.{arith}
-use mathlib.Core.Path.{_≡_, refl, sym}
-use Prim.Native.Nat.{_*_, _+_, _<_}
-use lib.ListN.{length}
-use Rattle.rooms.specs.Format.{most-people}
+use mathlib.Core.Path.{refl}
 use Rattle.longest.proofs.Passing.{in-line, passing-none, passing-takes, passing-keeps, passing-all}
 use Rattle.longest.proofs.offer_through.Needs as need
 use Rattle.longest.proofs.offer_through.Needs.{then-left-offer, else-left-offer}

@@ -1,6 +1,5 @@
-use Rattle.longest.proofs.Going.{around, shown-longest, one-longest}
-use Rattle.longest.proofs.Slacks.{search-ends}
+use Rattle.longest.proofs.Slacks.{search-ends, one-longest}
 use Rattle.longest.proofs.rows_stand.Needs as need
 
 pub returns : need.returns
-returns c = record { around = around; shown = shown-longest; one = one-longest; ends = search-ends }
+returns c = record { ends = search-ends; one = one-longest }

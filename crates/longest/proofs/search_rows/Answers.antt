@@ -3,7 +3,7 @@ use native.Mathlib.Omega.{arith}
 use mathlib.Core.Path.{_≡_, ap, _∙_}
 use lib.ListN.{take, replicate}
 use Rattle.std.proofs.shelf.Lists.{getD-take}
-use Rattle.longest.specs.Before.{nobody}
+use Rattle.rooms.specs.Before.{nobody}
 use Rattle.longest.specs.Run.{at, in-table, run}
 use Rattle.longest.proofs.Rounds.{start-is}
 use Rattle.longest.proofs.search_rows.Needs as need

@@ -1,0 +1,10 @@
+mod Put
+mod Sums
+mod Near
+mod Swap
+mod Invariant
+mod Step
+mod Moved
+mod Chain
+mod Growth
+mod Whole

@@ -1,0 +1,33 @@
+-- What is promised of the sharing that is found and of the looks it takes. Assumes nothing: these are definitions.
+use mathlib.Core.Path.{_≡_}
+use mathlib.Core.List.{List}
+use Prim.Native.Nat.{ℕ, _+_, _*_, _≤_, _<_}
+use Rattle.rooms.specs.House.{House, worth-at}
+use Rattle.rooms.specs.Rows.{Certified, signed}
+use Rattle.assignment.specs.Search.{at}
+use Rattle.assignment.specs.Run.{after, looks-in, sum-of}
+use Rattle.assignment.specs.Answer.{result}
+
+-- THE PROMISE. Everybody has a room of their own, and the numbers show that no sharing is worth more: a person's and a room's add up to at least the
+-- worth everywhere, and to just the worth at everybody's own room. No number is below nothing or above H.
+pub record Solved (h : House) (H : ℕ) (rooms persons prices : List ℕ) : Type 0 where
+  pub certified : Certified h rooms (signed persons) (signed prices)
+  pub persons-low : (i : ℕ) → i < h .n → at persons i ≤ H
+  pub prices-low : (r : ℕ) → r < h .n → at prices r ≤ H
+
+-- The looks of n rounds are few: each round takes at most n × n. In round p at most p + 1 persons join, so it takes at most (p + 1) × n; all together
+-- take at most n × n × n, and even half of n × n × (n + 1).
+pub record Few (n : ℕ) (round : ℕ → ℕ) (looks : ℕ) : Type 0 where
+  pub all : looks ≡ sum-of round n
+  pub square : (p : ℕ) → p < n → round p ≤ n * n
+  pub joins : (p : ℕ) → p < n → round p ≤ (p + 1) * n
+  pub cube : looks ≤ n * n * n
+  pub half : 2 * looks ≤ n * n * (n + 1)
+
+-- The search keeps both for every number of people and every bound H on the worths.
+abbrev pub Found : Type 0
+Found =
+    (h : House) (H : ℕ) → ((i r : ℕ) → i < h .n → r < h .n → worth-at h i r ≤ H) →
+    Solved h H (result h H .rooms .room) (result h H .persons) (result h H .prices)
+    × Few (h .n) (λ p. looks-in (worth-at h) (h .n) p (after (worth-at h) (h .n) H p))
+        (sum-of (λ p. looks-in (worth-at h) (h .n) p (after (worth-at h) (h .n) H p)) (h .n))

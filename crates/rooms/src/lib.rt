@@ -1,6 +1,6 @@
-// What a house and a settlement are.
-ghost use Prim.Native.Nat.{_≤_};
+// The lowest crate: what a house, a sharing of its rooms, rents and a settlement are, in specs/; and reading a group's bytes.
+pub mod group;
+pub mod refusal;
 
-pub fn unit_stands()
-    ensures { λ _. ⌜ 0 ≤ 1 ⌝ }
-{}
+pub use group::Group;
+pub use refusal::Refusal;

@@ -60,7 +60,7 @@ module _ (W : ℕ → ℕ → ℕ) (n p : ℕ) (u v holder : List ℕ) where
   pub grow-on : (b f s : List ℕ) (k m : ℕ) → k < n → m ≡ nearest-of n (at b) (at s) n → at holder m < p →
       grow-from W n p u v holder (n - k) b f s k
       ≡ grow-from W n p u v holder (n - (k + 1)) (nearer n (offers W n u v (at holder m) (at b m)) b)
-          (parents n (at holder m) (offers W n u v (at holder m) (at b m)) b f) (set s m (k + 1)) (k + 1)
+      (parents n (at holder m) (offers W n u v (at holder m) (at b m)) b f) (set s m (k + 1)) (k + 1)
   unfolding grow-from
   grow-on b f s k m h e o = rw (next k h, e) (cond-false _ _ _ (lt-leb _ _ (rw e at o)))
 
@@ -107,6 +107,10 @@ module _ {H : ℕ} (W : ℕ → ℕ → ℕ) (n p : ℕ) (u v room holder : List
   grew =
       grow-ends n (offers W n u v p 0) (list-of (λ _. p) n) (list-of (λ _. 0) n) 0 (omega arith) (long-list _ n) (long-list _ n) (long-list _ n)
       (grown-none n W p _ _ _ _ _ _ _ hp pl (started-of W n u v p))
+
+pub grew-by : {n H : ℕ} {W : ℕ → ℕ → ℕ} {p : ℕ} {u v room holder : List ℕ} {g : Tree} → p < n → Placed n H W p (at u) (at v) (at room) (at holder) → g ≡ tree-of W n p u v holder →
+    Grew n W p u v room holder g
+grew-by hp pl e = rw e (grew _ _ _ _ _ _ _ hp pl)
 
 -- What the loop of the growth keeps: the tree so far, and that what is left of the definition from here is the whole.
 pub record Growing (n : ℕ) (W : ℕ → ℕ → ℕ) (p : ℕ) (u v room holder b f s : List ℕ) (k : ℕ) : Type 0 where

@@ -7,4 +7,8 @@ mod Step
 mod Moved
 mod Chain
 mod Growth
+mod Row
+mod Lowered
+mod Handed
 mod Whole
+mod Shown

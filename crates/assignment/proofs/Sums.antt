@@ -51,6 +51,7 @@ sum-half f n (suc p) h =
   where
     suc-mul-more : (suc p + 1) * n ≡ (p + 1) * n + n
     suc-mul-more = let q : suc p + 1 ≡ suc (p + 1) = omega arith in rw q (suc-mul (p + 1) n)
+
     p-more : (p + 1) * n ≡ p * n + n
     p-more = let q : p + 1 ≡ suc p = omega arith in rw q (suc-mul p n)
 

@@ -10,7 +10,8 @@ use Rattle.std.specs.Iters.{counting}
 use Rattle.std.specs.Holes.{exchanged}
 use Rattle.std.proofs.shelf.Tests.{cases-eq, lt-ltb, le-ltb, eq-eqb, ne-eqb, cond-true, cond-false}
 use Rattle.std.proofs.shelf.Bits.{mul-le}
-use Rattle.std.proofs.shelf.Counted.{length-counting, getD-counting}
+use Rattle.std.proofs.shelf.Counted.{fill-by-all, length-counting, getD-counting}
+use Rattle.std.proofs.shelf.Lists.{map-id}
 use Rattle.std.proofs.shelf.Edits.{Swapped, swapped-from-exchanged, length-exchanged}
 use Rattle.assignment.specs.Search.{at, list-of, Tree, tree-of}
 use Rattle.assignment.specs.Run.{raised, lowered-at, lowered, Rooms, held, swapped, handed, State, state, round-tree, round-of, looks-in, beginning, after, sum-of, looks-to}
@@ -19,6 +20,7 @@ use Rattle.assignment.proofs.Invariant.{Ended, Moved, Handing}
 use Rattle.assignment.proofs.Chain.{chain-none, chain-under, chain-more, chain-all}
 use Rattle.assignment.proofs.Moved.{moved}
 use Rattle.assignment.proofs.Growth.{at-list, long-list, Grew, grew}
+use Rattle.assignment.proofs.Sums.{sum-most}
 
 pub swapped-list : (xs : List ℕ) (a b : ℕ) → a < length xs → b < length xs → Swapped (at xs) (at (exchanged xs a b)) a b
 swapped-list xs a b ha hb = swapped-from-exchanged xs (exchanged xs a b) a b 0 ha hb refl
@@ -126,3 +128,67 @@ pub round-joins : (n H : ℕ) (W : ℕ → ℕ → ℕ) (p : ℕ) (x : State) �
 unfolding looks-in
 round-joins n H W p x hp st =
     mul-le (round-tree W n p x .joined) n (p + 1) n (grew W n p (x .persons) (x .prices) (x .rooms .room) (x .rooms .holder) hp (st .placed) .joins) (omega arith)
+
+-- The parts of a round, put together.
+pub round-is : (W : ℕ → ℕ → ℕ) (n p : ℕ) (u v room holder : List ℕ) (g : Tree) (u′ v′ : List ℕ) (x y : Rooms) → g ≡ tree-of W n p u v holder →
+    v′ ≡ raised n (at (g .distances) (g .last)) (g .distances) v → u′ ≡ lowered n p (at (g .distances) (g .last)) (g .distances) room u →
+    x ≡ swapped room holder p (at holder (g .last)) → y ≡ handed p (g .parent) n x →
+    state u′ v′ (y .room) (y .holder) ≡ round-of W n p (state u v room holder)
+unfolding round-of
+round-is W n p u v room holder g u′ v′ x y eg ev eu ex ey = rw (← eg, ey, ex, eu, ev) refl
+
+pub round-count : (W : ℕ → ℕ → ℕ) (n p : ℕ) (u v room holder : List ℕ) (g : Tree) → g ≡ tree-of W n p u v holder → g .joined * n ≡ looks-in W n p (state u v room holder)
+unfolding looks-in
+round-count W n p u v room holder g e = ap (λ (x : Tree). x .joined * n) e
+
+-- The beginning, from what is written at each place.
+pub beginning-is : (n H : ℕ) (u v room holder : List ℕ) → length u ≡ n → length v ≡ n → length room ≡ n → length holder ≡ n →
+    ((k : ℕ) → k < n → at u k ≡ H) → ((k : ℕ) → k < n → at v k ≡ 0) → ((k : ℕ) → k < n → at room k ≡ k) → ((k : ℕ) → k < n → at holder k ≡ k) →
+    state u v room holder ≡ beginning n H
+beginning-is n H u v room holder lu lv lr lo hu hv hr ho =
+    let eu : u ≡ list-of (λ _. H) n = fill-by-all _ u n 0 lu hu in
+    let ev : v ≡ list-of (λ _. 0) n = fill-by-all _ v n 0 lv hv in
+    let er : room ≡ counting 0 n = fill-by-all _ room n 0 lr hr ∙ map-id _ in
+    let eo : holder ≡ counting 0 n = fill-by-all _ holder n 0 lo ho ∙ map-id _ in
+    rw (eu, ev, er, eo) refl
+
+-- What the loop over the rounds keeps.
+pub record Going (n H : ℕ) (W : ℕ → ℕ → ℕ) (p : ℕ) (u v room holder : List ℕ) (looks : ℕ) : Type 0 where
+  pub model : state u v room holder ≡ after W n H p
+  pub count : looks ≡ looks-to W n H p
+  pub stands : Stands n H W p (state u v room holder)
+
+module _ (n H : ℕ) (W : ℕ → ℕ → ℕ) (small : (i r : ℕ) → i < n → r < n → W i r ≤ H) where
+  pub going-none : (u v room holder : List ℕ) → state u v room holder ≡ beginning n H → Going n H W 0 u v room holder 0
+  unfolding after sum-of
+  going-none u v room holder e = record { model = e; count = refl; stands = rw e (first n H W small) }
+
+  pub going-more : (p : ℕ) (u v room holder u′ v′ room′ holder′ : List ℕ) (looks more : ℕ) → p < n → Going n H W p u v room holder looks →
+      state u′ v′ room′ holder′ ≡ round-of W n p (state u v room holder) → more ≡ looks-in W n p (state u v room holder) →
+      Going n H W (p + 1) u′ v′ room′ holder′ (looks + more)
+  unfolding after sum-of
+  going-more p u v room holder u′ v′ room′ holder′ looks more hp g e c = record {
+    model = rw add-one (e ∙ ap (round-of W n p) (g .model));
+    count = rw add-one (rw (← g .model, ← g .count, ← c) refl);
+    stands = rw e (round-stands n H W small p (state u v room holder) hp (g .stands));
+  }
+
+  pub round-square : (p : ℕ) (x : State) → p < n → Stands n H W p x → looks-in W n p x ≤ n * n
+  round-square p x hp st =
+      let a = round-joins n H W p x hp st in
+      let b = mul-le (p + 1) n n n (omega arith) (omega arith) in
+      omega arith
+
+  pub looks-most : (p : ℕ) → p ≤ n → looks-to W n H p ≤ p * (n * n)
+  looks-most p h = sum-most _ (n * n) p (λ q l. round-square q (after W n H q) (omega arith) (stands n H W small q (omega arith)))
+
+  -- The looks so far and those of a round more stay low.
+  pub going-low : (p : ℕ) (u v room holder : List ℕ) (looks more : ℕ) → n ≤ 24 → p < n → Going n H W p u v room holder looks →
+      more ≡ looks-in W n p (state u v room holder) → looks + more ≤ 13824
+  going-low p u v room holder looks more few hp g e =
+      let a = looks-most p (omega arith) in
+      let b = round-square p (state u v room holder) hp (g .stands) in
+      let s = mul-le n n 24 24 few few in
+      let t = mul-le p (n * n) 23 576 (omega arith) s in
+      let q = g .count in
+      omega arith

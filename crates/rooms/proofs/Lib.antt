@@ -1,2 +1,4 @@
+pub mod Bytes
 pub mod First
 pub mod Taken
+mod Roundtrips

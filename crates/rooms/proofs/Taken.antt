@@ -16,7 +16,21 @@ use Rattle.std.proofs.shelf.Tests.{ltb-false, le-ltb, eqb-false, ne-eqb, or-par
 use Rattle.rooms.specs.House.{House, worth-at}
 use Rattle.rooms.specs.Format.{most-people, most-rent, most-worth, Allowed, word, group-length, worth-place, people, worth-word, house-of, row-of, first-large, read, is-taken}
 use Rattle.rooms.specs.Format.Reading.{taken, refused}
+use Rattle.rooms.proofs.Bytes.{from-more, from-none}
 use Rattle.rooms.proofs.First.{first-none, none-first, first-le}
+
+-- A word by its four bytes.
+pub word-is : (s : List ℕ) (k : ℕ) → word s k ≡ getD s k 0 + getD s (k + 1) 0 * 256 + getD s (k + 2) 0 * 65536 + getD s (k + 3) 0 * 16777216
+unfolding word
+word-is s k =
+    omega (
+      arith,
+      from-more 3 s k (k + 1) refl,
+      from-more 2 s (k + 1) (k + 2) (omega arith),
+      from-more 1 s (k + 2) (k + 3) (omega arith),
+      from-more 0 s (k + 3) (k + 4) (omega arith),
+      from-none s (k + 4),
+    )
 
 -- What every test of reading has found.
 pub record Passed (s : List ℕ) : Type 0 where

@@ -2,11 +2,12 @@
 use mathlib.Core.Path.{_≡_}
 use mathlib.Core.Bool.{Bool, true, false, cond, _||_}
 use mathlib.Core.List.{List, [], _∷_, _++_, map}
-use Prim.Native.Nat.{ℕ, _+_, _-_, _*_, _/_, _%_, _≤_, _<_}
+use Prim.Native.Nat.{ℕ, _+_, _-_, _*_, _≤_, _<_}
 use lib.Dec.{eqb, ltb}
-use lib.ListN.{length, getD, replicate}
+use lib.ListN.{length, getD, take, drop, replicate}
 use Rattle.std.specs.Iters.{counting}
 use Rattle.std.specs.Joined.{joined}
+use Rattle.rooms.specs.Bytes.{low-bytes, from-bytes}
 use Rattle.rooms.specs.First.{first}
 use Rattle.rooms.specs.House.{House, worth-at}
 
@@ -29,12 +30,12 @@ pub record Allowed (h : House) : Type 0 where
   pub row : (i : ℕ) → i < h .n → length (getD (h .worth) i []) ≡ h .n
   pub small : (i r : ℕ) → worth-at h i r ≤ most-worth
 
--- A number as four bytes, low byte first, and the number that the four bytes from a place on are.
+-- A number as four bytes, and the number that the four bytes from a place on are.
 abbrev pub word-bytes : ℕ → List ℕ
-word-bytes x = x % 256 ∷ (x / 256 % 256 ∷ (x / 65536 % 256 ∷ (x / 16777216 % 256 ∷ [])))
+word-bytes x = low-bytes 4 x
 
-abbrev pub word : List ℕ → ℕ → ℕ
-word s k = getD s k 0 + getD s (k + 1) 0 * 256 + getD s (k + 2) 0 * 65536 + getD s (k + 3) 0 * 16777216
+unfoldable pub word : List ℕ → ℕ → ℕ
+word s k = from-bytes (take 4 (drop k s))
 
 -- The bytes of a house: one for the people, four for the rent, and four for each worth, person by person and for each the rooms in order.
 abbrev pub bytes-of : House → List ℕ

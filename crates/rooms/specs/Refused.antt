@@ -1,5 +1,8 @@
 -- The number and the place of each refusal. Assumes nothing: these are definitions.
+use mathlib.Core.List.{List, _++_}
 use Prim.Native.Nat.{ℕ}
+use lib.Chars.{codes}
+use Rattle.std.specs.Written.{decimal}
 use Rattle.rooms.specs.declared.refusal.Refusal.{Refusal}
 use Rattle.rooms.specs.declared.refusal.Refusal.the-variants.{Length, People, Rent, Worth, Slice}
 
@@ -18,3 +21,7 @@ place-of People = 0
 place-of Rent = 1
 place-of (Worth at) = at
 place-of (Slice which) = which
+
+-- What is printed of a refusal: "refused 4 at 13".
+abbrev pub refusal-text : ℕ → ℕ → List ℕ
+refusal-text number place = codes "refused " ++ (decimal number ++ (codes " at " ++ decimal place))

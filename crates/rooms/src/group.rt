@@ -8,6 +8,7 @@ ghost use Rattle.std.specs.Results.{Cases};
 ghost use Rattle.rooms.specs.House.{worth-at};
 ghost use Rattle.rooms.specs.Format.{most-people, Allowed, word, people, group-length, worth-place, worth-word, first-large, house-of, row-of, read, is-taken, taken, refused};
 ghost use Rattle.rooms.specs.Refused.{number-of, place-of};
+ghost use Rattle.rooms.specs.Roundtrip.{Reads-back, Writes-back};
 use super::refusal::Refusal;
 
 // The bounds of a group.
@@ -59,6 +60,12 @@ fn first_large(bytes: &[u8], n: usize) -> usize
     n * n
 }
 
+// The format loses nothing: a house's bytes are read back as that house, and bytes that are taken are just their house's.
+pub fn format_stands()
+    ensures reads { λ _. ⌜ Reads-back ⌝ }
+    ensures writes { λ _. ⌜ Writes-back ⌝ }
+{}
+
 impl<'a> Group<'a> {
     // Whether the bytes are a group's, or why not.
     pub fn validate(bytes: &[u8]) -> Result<(), Refusal>
@@ -93,8 +100,10 @@ impl<'a> Group<'a> {
         requires { ⌜ read (now bytes) ≡ taken (house-of (now bytes)) ⌝ }
         ensures { λ g. ⌜ now (g .bytes) ≡ now (bytes .entry) ⌝ }
     {
-        let n = bytes[0] as usize;
-        Group { bytes, n }
+        Group {
+            bytes,
+            n: bytes[0] as usize,
+        }
     }
 
     // How many people, and rooms.
@@ -118,9 +127,10 @@ impl<'a> Group<'a> {
         ensures whole { λ mine. ⌜ mine ≡ row-of (house-of (now (now (self .entry) .bytes))) i ⌝ }
         ensures each { λ mine. ⌜ ((r : ℕ) → getD mine r 0 ≡ worth-at (house-of (now (now (self .entry) .bytes))) i r) ⌝ }
     {
+        let n = self.n;
         let mut mine = [0; MOST_PEOPLE];
-        for r in 0..self.n {
-            mine[r] = worth_word(self.bytes, i * self.n + r);
+        for r in 0..n {
+            mine[r] = worth_word(self.bytes, i * n + r);
         }
         mine
     }

@@ -4,3 +4,6 @@ pub mod refusal;
 
 pub use group::Group;
 pub use refusal::Refusal;
+
+#[cfg(test)]
+mod tests;

@@ -1,6 +1,8 @@
 // Why bytes or lent slices are not taken.
 ghost use mathlib.Core.Path.{_≡_};
-ghost use Rattle.rooms.specs.Refused.{number-of, place-of};
+ghost use Rattle.std.specs.declared.option.Option.the-variants.{Some};
+ghost use Rattle.rooms.specs.Refused.{number-of, place-of, refusal-text};
+use std::fmt;
 
 #[derive(Clone, Copy, PartialEq, Eq, Debug)]
 pub enum Refusal {
@@ -40,5 +42,15 @@ impl Refusal {
             Refusal::Worth(at) => at,
             Refusal::Slice(which) => which,
         }
+    }
+}
+
+pub impl fmt::Display for Refusal as RefusalDisplay {
+    ghost shown = { λ e. Some (refusal-text (number-of e) (place-of e)) };
+
+    fn fmt<W: fmt::Write>(&self, f: &mut fmt::Formatter<W>) -> fmt::Result {
+        let number = self.number();
+        let place = self.place();
+        write!(f, "refused {number} at {place}")
     }
 }

@@ -13,6 +13,8 @@ use rooms::group::MOST_PEOPLE;
 
 mod rounds;
 mod search;
+#[cfg(test)]
+mod tests;
 
 use rounds::place_all;
 

@@ -6,8 +6,8 @@ use Prim.Native.Nat.{ℕ, zero, suc, _≤_, _<_}
 use native.Mathlib.Omega.{arith}
 use lib.Dec.{eqb, ltb}
 use Rattle.std.specs.Orderings.{Decides}
-use Rattle.std.proofs.shelf.Tests.{ltb-true, ltb-false, eqb-true, eq-eqb, both-ways, cases-eq}
-use Rattle.rooms.specs.First.{first, or-here}
+use Rattle.std.proofs.shelf.Tests.{le-ltb, lt-ltb, ltb-true, ltb-false, eqb-true, eq-eqb, both-ways, cases-bool, cases-eq}
+use Rattle.rooms.specs.First.{first, or-here, some}
 
 -- What one more number does: a first one stays, else it is this number or the one after.
 pub first-more : (t : ℕ → Bool) (n : ℕ) →
@@ -87,3 +87,13 @@ first-same s t (suc n) h =
 -- Whether there is none decides whether the test fails everywhere.
 pub first-decides : (t : ℕ → Bool) (n : ℕ) → Decides (eqb (first t n) n) ((k : ℕ) → k < n → t k ≡ false)
 first-decides t n = (λ e. none-first t n (eqb-true _ _ e), λ h. eq-eqb _ _ (first-none t n h))
+
+pub some-false : (t : ℕ → Bool) (n : ℕ) → some t n ≡ false → (k : ℕ) → k < n → t k ≡ false
+some-false t n e k l = first-before t n k (omega (arith, ltb-false _ _ e))
+
+pub false-some : (t : ℕ → Bool) (n : ℕ) → ((k : ℕ) → k < n → t k ≡ false) → some t n ≡ false
+false-some t n h = le-ltb _ _ (omega (arith, first-none t n h))
+
+pub true-some : (t : ℕ → Bool) (n k : ℕ) → k < n → t k ≡ true → some t n ≡ true
+true-some t n k l e =
+    elim (cases-bool (some t n)) [ inl s ↦ s | inr s ↦ absurd (both-ways (t k) (some-false t n s k l) e) ]

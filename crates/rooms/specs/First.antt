@@ -11,3 +11,7 @@ or-here here n r = cond (ltb r n) r (cond here n (suc n))
 abbrev pub first : (ℕ → Bool) → ℕ → ℕ
 first t zero = zero
 first t (suc n) = or-here (t n) n (first t n)
+
+-- The test holds at some number below n.
+abbrev pub some : (ℕ → Bool) → ℕ → Bool
+some t n = ltb (first t n) n

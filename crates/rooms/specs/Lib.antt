@@ -1,8 +1,10 @@
 pub mod House
 pub mod Promise
 pub mod Rows
-pub mod Bytes
+pub mod Before
+pub mod Sharing
 pub mod First
+pub mod Bytes
 pub mod Format
 pub mod Roundtrip
 pub mod Refused

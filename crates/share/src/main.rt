@@ -18,8 +18,14 @@ fn read_group(rt: &LibcRuntime, path: &str) -> io::Result<Vec<u8>> {
 
 fn help(rt: &LibcRuntime) -> io::Result<()> {
     println!(rt, "usage: share [GROUP [SHEET]]")?;
-    println!(rt, "Reads a group's bytes from the file GROUP, or from standard input where none or - is given,")?;
-    println!(rt, "and tells how many people and which rent it has. Bytes that are not a group are")?;
+    println!(
+        rt,
+        "Reads a group's bytes from the file GROUP, or from standard input where none or - is given,"
+    )?;
+    println!(
+        rt,
+        "and tells how many people and which rent it has. Bytes that are not a group are"
+    )?;
     println!(rt, "refused with a number and a place, and status 1.")
 }
 

@@ -1,0 +1,19 @@
+use mathlib.Core.Path.{_≡_, sym, subst, _∙_}
+use native.Mathlib.Omega.{arith}
+use Prim.Native.Nat.{_<_, _^_}
+use lib.IntN.{ℤ}
+use mir.Val.{SFits, hbits, ofZ, toZ}
+use mir.Syntax.{w64}
+use Rattle.std.proofs.shelf.Signed.{toZ-ofZ, toZ-pos}
+use Rattle.whole.specs.Floor.{floor, Floor-of}
+use Rattle.whole.proofs.Floors.{floors, euclid-floor}
+use Rattle.whole.proofs.floor.floor_div.Needs as need
+
+pub returns : need.returns
+returns c =
+    let f : SFits w64 (c .div-euclid .result) = record { sfits = c .div-euclid .ok } in
+    let g = c .fits .a in
+    let h : c .args .n < 2 ^ hbits w64 = omega arith in
+    let e : toZ w64 (ofZ w64 (c .div-euclid .result)) ≡ floor (c .args .a) (c .args .n) =
+    toZ-ofZ w64 (c .div-euclid .result) f ∙ (simp (toZ-ofZ, toZ-pos) at (c .div-euclid .ensures)) ∙ euclid-floor (c .args .a) (c .args .n) in
+    record { value = e; meant = rw e (floors (c .args .a) (c .args .n) (c .pre)) }

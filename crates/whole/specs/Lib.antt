@@ -1,0 +1,4 @@
+pub mod Bits
+pub mod Bounds
+pub mod Bytes
+pub mod Floor

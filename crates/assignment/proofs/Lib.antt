@@ -7,8 +7,8 @@ mod Step
 mod Moved
 mod Chain
 mod Growth
-mod Row
+pub mod Row
 mod Lowered
 mod Handed
 mod Whole
-mod Shown
+pub mod Shown

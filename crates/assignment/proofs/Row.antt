@@ -8,6 +8,8 @@ use lib.ListN.{length, replicate}
 use Rattle.std.proofs.shelf.Bits.{mul-le}
 use Rattle.std.proofs.shelf.Lists.{getD-replicate, length-replicate}
 use Rattle.std.proofs.shelf.Counted.{fill-by-all}
+use Rattle.rooms.specs.Format.{most-people}
+use Rattle.assignment.specs.Answer.{work-for}
 use Rattle.assignment.specs.Search.{at, list-of, offer-of, offers, nearer, parents}
 use Rattle.assignment.proofs.Growth.{at-list, long-list}
 
@@ -31,3 +33,7 @@ nearer-by n row o b b′ e l x = rw (l, e) at x
 
 pub parents-by : (n i : ℕ) (row o b f f′ : List ℕ) → row ≡ o → length row ≡ n → f′ ≡ parents (length row) i row b f → f′ ≡ parents n i o b f
 parents-by n i row o b f f′ e l x = rw (l, e) at x
+
+-- The work of the most people, 24 × 24 + 7 × 24, is enough.
+pub work-within : (n m : ℕ) → n ≤ most-people → 744 ≤ m → work-for n ≤ m
+work-within n m h k = omega (arith, mul-le n n 24 24 h h)

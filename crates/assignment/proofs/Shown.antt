@@ -12,6 +12,7 @@ use Rattle.std.proofs.shelf.Signed.{ints}
 use Rattle.rooms.specs.House.{House, worth-at, value}
 use Rattle.rooms.specs.Format.{most-worth, Allowed}
 use Rattle.rooms.specs.Rows.{Certified, signed, number}
+use Rattle.rooms.proofs.Sharing.{certified-best}
 use Rattle.assignment.specs.Search.{at}
 use Rattle.assignment.specs.Run.{State, state, after, looks-in, sum-of, looks-to}
 use Rattle.assignment.specs.Between.{Placed, Stands}
@@ -60,19 +61,21 @@ number-signed [] i = refl
 number-signed (x ∷ xs) zero = refl
 number-signed (x ∷ xs) (suc i) = number-signed xs i
 
--- In signed numbers.
+-- In signed numbers: the two sums are those of the certificate.
+certified : (h : House) (H : ℕ) (rooms persons prices : List ℕ) → h .n ≤ length rooms → Shared (h .n) H (worth-at h) (at persons) (at prices) (at rooms) →
+    Certified h rooms (signed persons) (signed prices)
+unfolding value
+certified h H rooms persons prices l s = record {
+  housed = record { all = l; each = s .each; own = s .own };
+  cover = λ i r li lr. rw (number-signed persons i, number-signed prices r) (let a = s .cover i r li lr in omega (arith, ints));
+  tight = λ i li. rw (number-signed persons i, number-signed prices (at rooms i)) (let a = s .tight i li in omega (arith, ints));
+}
+
 pub solved : (h : House) (H : ℕ) (rooms persons prices : List ℕ) → h .n ≤ length rooms → Shared (h .n) H (worth-at h) (at persons) (at prices) (at rooms) →
     Solved h H rooms persons prices
-unfolding value
-solved h H rooms persons prices l s = record {
-  certified = record {
-    housed = record { all = l; each = s .each; own = s .own };
-    cover = λ i r li lr. rw (number-signed persons i, number-signed prices r) (let a = s .cover i r li lr in omega (arith, ints));
-    tight = λ i li. rw (number-signed persons i, number-signed prices (at rooms i)) (let a = s .tight i li in omega (arith, ints));
-  };
-  persons-low = s .persons;
-  prices-low = s .prices;
-}
+solved h H rooms persons prices l s =
+    let c = certified h H rooms persons prices l s in
+    record { best = certified-best h rooms (signed persons) (signed prices) c; certified = c; persons-low = s .persons; prices-low = s .prices }
 
 pub few : (n H : ℕ) (W : ℕ → ℕ → ℕ) → ((i r : ℕ) → i < n → r < n → W i r ≤ H) → Few n (λ p. looks-in W n p (after W n H p)) (looks-to W n H n)
 few n H W small = record {

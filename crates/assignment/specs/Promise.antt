@@ -5,14 +5,16 @@ use Prim.Native.Nat.{ℕ, _+_, _*_, _≤_, _<_}
 use lib.ListN.{length}
 use Rattle.rooms.specs.House.{House, worth-at}
 use Rattle.rooms.specs.Format.{most-worth, Allowed}
+use Rattle.rooms.specs.Promise.{Best-sharing}
 use Rattle.rooms.specs.Rows.{Certified, signed}
 use Rattle.assignment.specs.Search.{at}
 use Rattle.assignment.specs.Run.{after, looks-in, sum-of}
 use Rattle.assignment.specs.Answer.{result, sharing-of, persons-of, prices-of, round-looks, looks-of}
 
--- THE PROMISE. Everybody has a room of their own, and the numbers show that no sharing is worth more: a person's and a room's add up to at least the
--- worth everywhere, and to just the worth at everybody's own room. No number is below nothing or above H.
+-- THE PROMISE. Everybody has a room of their own, and no sharing is worth more to all together. The numbers show it: a person's and a room's add up to
+-- at least the worth everywhere, and to just the worth at everybody's own room. No number is below nothing or above H.
 pub record Solved (h : House) (H : ℕ) (rooms persons prices : List ℕ) : Type 0 where
+  pub best : Best-sharing h rooms
   pub certified : Certified h rooms (signed persons) (signed prices)
   pub persons-low : (i : ℕ) → i < h .n → at persons i ≤ H
   pub prices-low : (r : ℕ) → r < h .n → at prices r ≤ H

@@ -11,7 +11,7 @@ raise-requires c κs =
     let pl = c .pre .stands .placed in
     let gr = grew-by (c .pre .people .1 .1) pl (c .grow-last .ensures .model) in
     let x = pl .dual .persons (c .args .p) (c .pre .people .1 .1) in
-    (omega arith, (c .pre .stands .long-prices, (omega (arith, own-fits (c .pre .people .1 .1) pl (gr .ended)), pl .dual .prices)))
+    (omega arith, (c .pre .stands .long-prices, (omega (arith, own-fits {m = c .grow-last .result .0} (c .pre .people .1 .1) pl (gr .ended)), pl .dual .prices)))
 
 pub lower-requires : need.lower-requires
 lower-requires c κs =
@@ -20,7 +20,7 @@ lower-requires c κs =
     record {
       sizes = (omega arith, (c .pre .stands .long-room, (c .pre .stands .long-persons, c .pre .people .1 .1)));
       rooms = pl .held .into;
-      fits = (down-fits (c .pre .people .1 .1) pl (gr .ended), own-fits (c .pre .people .1 .1) pl (gr .ended));
+      fits = (down-fits {m = c .grow-last .result .0} (c .pre .people .1 .1) pl (gr .ended), own-fits {m = c .grow-last .result .0} (c .pre .people .1 .1) pl (gr .ended));
     }
 
 pub exchange-requires : need.exchange-requires
@@ -37,7 +37,7 @@ augment-requires c κs =
       holds = (
         held-exchanged (c .args .n) _ _ _ _ _ (c .pre .stands .long-room) (c .pre .stands .long-holder) (c .pre .people .1 .1)
             (pl .held .onto _ (c .grow-last .ensures .here .0)) (pl .held) (c .exchange .ensures),
-        parent-fits (c .pre .people .1 .1) pl (gr .ended),
+        parent-fits {m = c .grow-last .result .0} (c .pre .people .1 .1) pl (gr .ended),
       );
     }
 

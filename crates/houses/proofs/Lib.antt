@@ -1,0 +1,4 @@
+mod Tests
+mod Table
+
+-- mod Unfair

@@ -1,4 +1,3 @@
 mod Tests
 mod Table
-
--- mod Unfair
+mod Unfair

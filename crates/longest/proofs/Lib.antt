@@ -1,0 +1,9 @@
+mod Nearest
+mod Growth
+mod Rounds
+pub mod Slacks
+mod Passing
+mod Lines
+pub mod Padded
+mod Outcome
+pub mod Checked

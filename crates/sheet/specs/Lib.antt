@@ -1,3 +1,5 @@
 pub mod Format
 pub mod Judge
 pub mod Verdicts
+pub mod Share
+pub mod Report

@@ -1,11 +1,9 @@
 -- The growth of a round's tree, on lists.
 use mathlib.Core.Path.{_≡_, refl, sym, _∙_}
 use mathlib.Core.Logic.{⊎-elim}
-use mathlib.Core.Bool.{cond}
 use mathlib.Core.List.{List}
 use Prim.Native.Nat.{ℕ, zero, suc, _+_, _-_, _≤_, _<_}
-use lib.Dec.{ltb}
-use lib.ListN.{length, getD, set, length-set}
+use lib.ListN.{length, set, length-set}
 use lib.Seq.{getD-set-same, getD-set-other}
 use native.Mathlib.Omega.{arith}
 use Rattle.std.proofs.shelf.Tests.{cases-lt, le-leb, lt-leb, cond-true, cond-false}
@@ -28,12 +26,10 @@ marked s m x l = record { here = rw getD-set-same; others = λ t ne. getD-set-ot
 -- The lists of the definition, at each place.
 pub looked-of : (W : ℕ → ℕ → ℕ) (n : ℕ) (u v : List ℕ) (i d : ℕ) (b f : List ℕ) →
     Looked n W (at u) (at v) i d (at b) (at f) (at (nearer n (offers W n u v i d) b)) (at (parents n i (offers W n u v i d) b f))
-looked-of W n u v i d b f =
-    let row : List ℕ = offers W n u v i d in
-    record {
-      near = λ r l. at-list (λ r. cond (ltb (at (offers W n u v i d) r) (at b r)) (at (offers W n u v i d) r) (at b r)) n r l ∙ rw (at-list (offer-of W (at u) (at v) i d) n r l) refl;
-      parent = λ r l. at-list (λ r. cond (ltb (at (offers W n u v i d) r) (at b r)) i (at f r)) n r l ∙ rw (at-list (offer-of W (at u) (at v) i d) n r l) refl;
-    }
+looked-of W n u v i d b f = record {
+  near = λ r l. at-list _ n r l ∙ rw (at-list (offer-of W (at u) (at v) i d) n r l) refl;
+  parent = λ r l. at-list _ n r l ∙ rw (at-list (offer-of W (at u) (at v) i d) n r l) refl;
+}
 
 pub started-of : (W : ℕ → ℕ → ℕ) (n : ℕ) (u v : List ℕ) (p : ℕ) → Started n W (at u) (at v) p (at (offers W n u v p 0)) (at (list-of (λ _. p) n)) (at (list-of (λ _. 0) n))
 started-of W n u v p = record { near = at-list _ n; parent = at-list _ n; fresh = at-list _ n }

@@ -4,9 +4,8 @@ use mathlib.Core.List.{List, [], _∷_, _++_}
 use Prim.Native.Nat.{ℕ, zero, suc, _+_, _-_, _*_, _≤_, _<_}
 use native.Mathlib.Omega.{arith}
 use native.Mathlib.Nat.{mul-assoc}
-use lib.IntN.{ℤ, pos}
+use lib.IntN.{pos}
 use lib.ListN.{length, drop}
-use Rattle.std.proofs.shelf.Bits.{mul-le}
 use Rattle.std.proofs.shelf.Lists.{getD-append-left, length-append}
 use Rattle.std.proofs.shelf.Signed.{ints}
 use Rattle.rooms.specs.House.{House, worth-at, value}
@@ -14,9 +13,9 @@ use Rattle.rooms.specs.Format.{most-worth, Allowed}
 use Rattle.rooms.specs.Rows.{Certified, signed, number}
 use Rattle.rooms.proofs.Sharing.{certified-best}
 use Rattle.assignment.specs.Search.{at}
-use Rattle.assignment.specs.Run.{State, state, after, looks-in, sum-of, looks-to}
-use Rattle.assignment.specs.Between.{Placed, Stands}
-use Rattle.assignment.specs.Answer.{result, sharing-of, persons-of, prices-of, round-looks, looks-of, array-of}
+use Rattle.assignment.specs.Run.{State, state, after, looks-in, looks-to}
+use Rattle.assignment.specs.Between.{Placed}
+use Rattle.assignment.specs.Answer.{result, sharing-of, persons-of, prices-of, looks-from, round-looks, looks-of, array-of}
 use Rattle.assignment.specs.Promise.{Solved, Few, All-answered, Found}
 use Rattle.assignment.proofs.Sums.{sum-half, cube-half}
 use Rattle.assignment.proofs.Whole.{stands, round-joins, round-square, looks-most}
@@ -90,7 +89,7 @@ few n H W small = record {
     joins p l = round-joins n H W p _ l (stands n H W small p (omega arith))
 
 pub found : Found
-unfolding result
+unfolding result looks-from
 found h H small =
     let st = stands (h .n) H (worth-at h) small (h .n) (omega arith) in
     let lr = st .long-room in (
@@ -100,7 +99,7 @@ found h H small =
 
 -- The answer for a house within the bounds.
 pub answered : All-answered
-unfolding result sharing-of persons-of prices-of round-looks looks-of
+unfolding result sharing-of persons-of prices-of looks-from looks-of
 answered h al =
     let st = stands (h .n) most-worth (worth-at h) (λ i r _ _. al .small i r) (h .n) (omega arith) in
     let lr = st .long-room in
@@ -137,7 +136,7 @@ module _ (h : House) (n : ℕ) (u v room holder : List ℕ) (looks : ℕ) (q : n
   is-prices = ap (λ (x : State). x .prices) (rw q at e)
 
   pub is-looks : looks ≡ looks-of h
-  unfolding round-looks looks-of
+  unfolding looks-from looks-of
   is-looks = rw q at c
 
 -- What the answer promises of the slices and arrays that hold it.

@@ -1,9 +1,9 @@
 -- A round, and all rounds, on lists.
-use mathlib.Core.Path.{_≡_, refl, sym, ap, _∙_}
+use mathlib.Core.Path.{_≡_, refl, ap, _∙_}
 use mathlib.Core.Logic.{⊎-elim}
 use mathlib.Core.List.{List}
 use Prim.Native.Nat.{ℕ, zero, suc, _+_, _-_, _*_, _≤_, _<_}
-use lib.ListN.{length, set, length-set}
+use lib.ListN.{length}
 use native.Mathlib.Omega.{arith}
 use native.Mathlib.Numerals.{add-one}
 use Rattle.std.specs.Iters.{counting}
@@ -15,8 +15,8 @@ use Rattle.std.proofs.shelf.Lists.{map-id}
 use Rattle.std.proofs.shelf.Edits.{Swapped, swapped-from-exchanged, length-exchanged}
 use Rattle.assignment.specs.Search.{at, list-of, Tree, tree-of}
 use Rattle.assignment.specs.Run.{raised, lowered-at, lowered, Rooms, held, swapped, handed, State, state, round-tree, round-of, looks-in, beginning, after, sum-of, looks-to}
-use Rattle.assignment.specs.Between.{Dual, Held, Placed, Stands}
-use Rattle.assignment.proofs.Invariant.{Ended, Moved, Handing}
+use Rattle.assignment.specs.Between.{Placed, Stands}
+use Rattle.assignment.proofs.Invariant.{Moved, Handing}
 use Rattle.assignment.proofs.Chain.{chain-none, chain-under, chain-more, chain-all}
 use Rattle.assignment.proofs.Moved.{moved}
 use Rattle.assignment.proofs.Growth.{at-list, long-list, Grew, grew}

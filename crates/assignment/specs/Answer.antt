@@ -22,9 +22,12 @@ persons-of h = result h most-worth .persons
 unfoldable pub prices-of : House → List ℕ
 prices-of h = result h most-worth .prices
 
--- The looks of round p, in which person p is placed: a look is one person at one room.
-unfoldable pub round-looks : House → ℕ → ℕ
-round-looks h p = looks-in (worth-at h) (h .n) p (after (worth-at h) (h .n) most-worth p)
+-- The looks of round p, in which person p is placed, where everybody begins with the number H: a look is one person at one room.
+unfoldable pub looks-from : House → ℕ → ℕ → ℕ
+looks-from h H p = looks-in (worth-at h) (h .n) p (after (worth-at h) (h .n) H p)
+
+abbrev pub round-looks : House → ℕ → ℕ
+round-looks h p = looks-from h most-worth p
 
 -- The looks of all n rounds together.
 unfoldable pub looks-of : House → ℕ

@@ -8,8 +8,8 @@ use Rattle.rooms.specs.Format.{most-worth, Allowed}
 use Rattle.rooms.specs.Promise.{Best-sharing}
 use Rattle.rooms.specs.Rows.{Certified, signed}
 use Rattle.assignment.specs.Search.{at}
-use Rattle.assignment.specs.Run.{after, looks-in, sum-of}
-use Rattle.assignment.specs.Answer.{result, sharing-of, persons-of, prices-of, round-looks, looks-of}
+use Rattle.assignment.specs.Run.{sum-of}
+use Rattle.assignment.specs.Answer.{result, sharing-of, persons-of, prices-of, looks-from, round-looks, looks-of}
 
 -- THE PROMISE. Everybody has a room of their own, and no sharing is worth more to all together. The numbers show it: a person's and a room's add up to
 -- at least the worth everywhere, and to just the worth at everybody's own room. No number is below nothing or above H.
@@ -45,5 +45,4 @@ abbrev pub Found : Type 0
 Found =
     (h : House) (H : ℕ) → ((i r : ℕ) → i < h .n → r < h .n → worth-at h i r ≤ H) →
     Solved h H (result h H .rooms .room) (result h H .persons) (result h H .prices)
-    × Few (h .n) (λ p. looks-in (worth-at h) (h .n) p (after (worth-at h) (h .n) H p))
-    (sum-of (λ p. looks-in (worth-at h) (h .n) p (after (worth-at h) (h .n) H p)) (h .n))
+    × Few (h .n) (looks-from h H) (sum-of (looks-from h H) (h .n))

@@ -1,6 +1,4 @@
 use borrow.Author.Needs.{needs}
-use native.Mathlib.Omega.{arith}
-use mathlib.Core.Path.{_≡_}
 use Rattle.std.proofs.shelf.Parts.{overwrites}
 use Rattle.assignment.proofs.Shown.{solved-by, few-by, front-is}
 use Rattle.assignment.proofs.assign.Needs as need

@@ -1,6 +1,4 @@
-use borrow.Author.Needs.{needs}
-use native.Mathlib.Omega.{arith}
-use mathlib.Core.Path.{_≡_, _∙_, ap}
+use mathlib.Core.Path.{_∙_, ap}
 use Rattle.rooms.specs.Format.{house-of}
 use Rattle.assignment.specs.Answer.{array-of}
 use Rattle.assignment.proofs.Shown.{is-sharing, is-persons, is-prices, is-looks}

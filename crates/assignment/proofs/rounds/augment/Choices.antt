@@ -1,5 +1,5 @@
 use mathlib.Core.Path.{_≡_}
-use Prim.Native.Nat.{ℕ, _-_}
+use Prim.Native.Nat.{_-_}
 use Rattle.assignment.specs.Search.{at}
 use Rattle.assignment.specs.Run.{held, handed}
 use Rattle.assignment.specs.Between.{Held}

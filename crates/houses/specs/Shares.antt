@@ -76,7 +76,7 @@ share-d room = record {
   gains = signed (50 ∷ 50 ∷ []);
 }
 
--- E: the gain is below nothing, −4.
+-- E: the gain is below nothing, −4, which is written negsuc 3.
 abbrev pub share-e : List ℕ → Entry
 share-e room = record {
   house = house-e;

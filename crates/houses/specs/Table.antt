@@ -8,7 +8,7 @@ use Rattle.rooms.specs.Rows.{number}
 use Rattle.rents.specs.Shown.{Shown}
 use Rattle.houses.specs.Shares.{Entry, share-a, share-b, share-c, share-d, share-e, share-f}
 
--- Each house by every one of its best sharings: the room of person 0, of person 1, and so on.
+-- The shares by their rooms: that of person 0, of person 1, and so on. A, B and F have two best sharings each.
 abbrev pub table : List Entry
 table =
     share-a (0 ∷ 2 ∷ 1 ∷ [])
@@ -28,7 +28,7 @@ pub record Stands (e : Entry) : Type 0 where
   pub shown : Shown (e .house) (e .claim)
   pub gains : (i : ℕ) → i < e .house .n → own-gain (e .house) (e .claim .room) (e .house .n) (e .claim .rents) i ≡ number (e .gains) i
 
--- So does each of the entries.
+-- Every entry stands.
 abbrev pub All-stand : List Entry → Type 0
 All-stand [] = Unit {0}
 All-stand (e ∷ es) = Stands e × All-stand es

@@ -1,3 +1,6 @@
 pub mod Fair
 pub mod Shown
 pub mod Always
+pub mod Sizes
+pub mod Writing
+pub mod Answered

@@ -1,2 +1,3 @@
 pub mod Rents
 pub mod Shown
+pub mod Answer

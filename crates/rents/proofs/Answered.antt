@@ -21,13 +21,12 @@ use Rattle.rents.proofs.Sizes.{lengths-low, number-signed, rents-roundable}
 use Rattle.rents.proofs.Writing.{gains-are, held-front}
 
 -- What is left over is what is spare.
-pub spare-is : (h : House) (room d : List ℕ) (n r : ℕ) (j l s : ℤ) → j ≡ joint h room → r ≡ h .rent → l ≡ sum (λ i. number (signed d) i) n → n ≡ h .n →
-    s ≡ (toZ w64 (ofZ w64 j) -ℤ pos r) -ℤ toZ w64 (ofZ w64 l) → SFits w64 j → SFits w64 l → s ≡ spare h room (signed d)
+pub spare-is : (h : House) (room d : List ℕ) (n : ℕ) (j s : ℤ) → n ≡ h .n → j ≡ joint h room → SFits w64 j →
+    s ≡ (toZ w64 (ofZ w64 j) -ℤ pos (h .rent)) -ℤ sum (λ i. number (signed d) i) n → s ≡ spare h room (signed d)
 unfolding spare
-spare-is h room d n r j l s a b e f v p q =
-    let g : l ≡ sum (λ i. number (signed d) i) (h .n) = e ∙ ap (λ n. sum (λ i. number (signed d) i) n) f in
+spare-is h room d n j s f a p v =
+    let g : sum (λ i. number (signed d) i) n ≡ sum (λ i. number (signed d) i) (h .n) = ap (λ n. sum (λ i. number (signed d) i) n) f in
     let x = toZ-ofZ w64 j p in
-    let y = toZ-ofZ w64 l q in
     omega (arith, ints)
 
 -- What is computed for a person is what they pay.

@@ -46,7 +46,7 @@ pub fn fairest_rents(
 {
     let n = group.count();
     let joint = joint_worth(group, n, rooms);
-    let least = left_over(joint, group.rent(), all_lengths(n, d));
+    let least = left_over(group, n, d, joint);
     write_rents(group, n, rooms, d, least, rents);
     Outcome {
         joint,
@@ -88,11 +88,12 @@ fn all_lengths(n: usize, d: [u64; MOST_PEOPLE]) -> i64
 }
 
 // What is left of the joint worth when the rent and all lengths are taken from it.
-fn left_over(joint: i64, rent: u32, lengths: i64) -> i64
-    requires { ⌜ Within (2 ^ 60) joint ⌝ ∗ ⌜ Within (2 ^ 60) lengths ⌝ }
-    ensures { λ r. ⌜ r ≡ (joint -ℤ pos rent) -ℤ lengths ⌝ }
+fn left_over(group: &Group, n: usize, d: [u64; MOST_PEOPLE], joint: i64) -> i64
+    requires people { ⌜ n ≡ house-of (now (now group .bytes)) .n ⌝ ∗ ⌜ n ≤ most-people ⌝ }
+    requires small { ⌜ ((i : ℕ) → getD d i 0 ≤ most-worth) ⌝ ∗ ⌜ Within (2 ^ 60) joint ⌝ }
+    ensures { λ r. ⌜ r ≡ (joint -ℤ pos (house-of (now (now (group .entry) .bytes)) .rent)) -ℤ total (λ i. number (signed d) i) n ⌝ }
 {
-    difference(difference(joint, rent as i64), lengths)
+    difference(difference(joint, group.rent() as i64), all_lengths(n, d))
 }
 
 // What a person pays, n times: the worth of their room less the length of their row, less an even part of what is spare.

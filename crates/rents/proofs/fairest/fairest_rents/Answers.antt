@@ -24,34 +24,35 @@ left-over-least-requires c κs =
     let a = c .count-n .ensures .allowed in
     let n = c .count-n .ensures .people in
     let w = worths-small h (c .args .rooms .now) a (h .n) (omega arith) in
-    let l = lengths-small (c .args .d) (c .pre .measured .low) (c .count-n .result) (omega (arith, a .few)) in
     let j = c .joint-worth-joint .ensures in
-    let k = c .all-lengths .ensures in
-    (record { low = omega (arith, ints); high = omega (arith, ints) }, record { low = omega (arith, ints); high = omega (arith, ints) })
+    record {
+      people = (n, omega (arith, a .few));
+      small = (c .pre .measured .low, record { low = omega (arith, ints); high = omega (arith, ints) });
+    }
 
 pub write-rents-requires : need.write-rents-requires
 write-rents-requires c κs =
     let h = house-of (now (c .args .group .now .bytes)) in
-    let s : c .left-over-least .result ≡ spare h (c .args .rooms .now) (signed (c .args .d)) =
-    spare-is h (c .args .rooms .now) (c .args .d) (c .count-n .result) (c .rent .result) (c .joint-worth-joint .result) (c .all-lengths .result)
-    (c .left-over-least .result) (c .joint-worth-joint .ensures) (c .rent .ensures) (c .all-lengths .ensures) (c .count-n .ensures .people)
-    (c .left-over-least .ensures) (record { sfits = c .joint-worth-joint .ok }) (record { sfits = c .all-lengths .ok }) in
+    let n = c .count-n .ensures .people in
+    let s =
+    spare-is h (c .args .rooms .now) (c .args .d) (c .count-n .result) (c .joint-worth-joint .result) (c .left-over-least .result) n
+    (c .joint-worth-joint .ensures) (record { sfits = c .joint-worth-joint .ok }) (c .left-over-least .ensures) in
     record {
-      people = (c .count-n .ensures .people, c .count-n .ensures .allowed);
+      people = (n, c .count-n .ensures .allowed);
       measured = (c .pre .measured, toZ-ofZ w64 (c .left-over-least .result) (record { sfits = c .left-over-least .ok }) ∙ s);
-      enough = let n = c .count-n .ensures .people in let e = c .pre .enough in omega arith;
+      enough = let e = c .pre .enough in omega arith;
     }
 
 pub all-gains-requires : need.all-gains-requires
 all-gains-requires c κs =
     let h = house-of (now (c .args .group .now .bytes)) in
     let a = c .count-n .ensures .allowed in
-    let s : c .left-over-least .result ≡ spare h (c .args .rooms .now) (signed (c .args .d)) =
-    spare-is h (c .args .rooms .now) (c .args .d) (c .count-n .result) (c .rent .result) (c .joint-worth-joint .result) (c .all-lengths .result)
-    (c .left-over-least .result) (c .joint-worth-joint .ensures) (c .rent .ensures) (c .all-lengths .ensures) (c .count-n .ensures .people)
-    (c .left-over-least .ensures) (record { sfits = c .joint-worth-joint .ok }) (record { sfits = c .all-lengths .ok }) in
+    let n = c .count-n .ensures .people in
+    let s =
+    spare-is h (c .args .rooms .now) (c .args .d) (c .count-n .result) (c .joint-worth-joint .result) (c .left-over-least .result) n
+    (c .joint-worth-joint .ensures) (record { sfits = c .joint-worth-joint .ok }) (c .left-over-least .ensures) in
     let w = spare-small h (c .args .rooms .now) (c .args .d) a (c .pre .measured .low) in
-    (let n = c .count-n .ensures .people in omega (arith, a .few), (c .pre .measured .low, record { low = omega (arith, ints); high = omega (arith, ints) }))
+    (omega (arith, a .few), (c .pre .measured .low, record { low = omega (arith, ints); high = omega (arith, ints) }))
 
 pub returns : need.returns
 returns c =
@@ -60,10 +61,9 @@ returns c =
     let d = signed (c .args .d) in
     let a = c .count-n .ensures .allowed in
     let n = c .count-n .ensures .people in
-    let s : c .left-over-least .result ≡ spare h room d =
-    spare-is h room (c .args .d) (c .count-n .result) (c .rent .result) (c .joint-worth-joint .result) (c .all-lengths .result)
-    (c .left-over-least .result) (c .joint-worth-joint .ensures) (c .rent .ensures) (c .all-lengths .ensures) n
-    (c .left-over-least .ensures) (record { sfits = c .joint-worth-joint .ok }) (record { sfits = c .all-lengths .ok }) in
+    let s =
+    spare-is h room (c .args .d) (c .count-n .result) (c .joint-worth-joint .result) (c .left-over-least .result) n
+    (c .joint-worth-joint .ensures) (record { sfits = c .joint-worth-joint .ok }) (c .left-over-least .ensures) in
     let z : toZ w64 (ofZ w64 (c .left-over-least .result)) ≡ spare h room d =
     toZ-ofZ w64 (c .left-over-least .result) (record { sfits = c .left-over-least .ok }) ∙ s in
     let w : c .write-rents .last .rents ≡ bits (rents-of h room d) ++ drop (h .n) (c .args .rents .now) =

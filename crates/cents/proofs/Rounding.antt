@@ -52,7 +52,7 @@ with-extra n m ps cs l e =
     sum-same (λ r. rent-of cs r) (λ r. floor-at n ps r +ℤ extra (pos m) r) n e ∙ sum-add (λ r. floor-at n ps r) (λ r. extra (pos m) r) n
     ∙ ap (λ (x : ℤ). sum (λ r. floor-at n ps r) n +ℤ x) (sum-extra m n l)
 
-cents-at : (n rent : ℕ) (ps : List ℤ) (r : ℕ) → r < n → rent-of (cents-of n rent ps) r ≡ floor-at n ps r +ℤ extra (missing-cents n rent ps) r
+pub cents-at : (n rent : ℕ) (ps : List ℤ) (r : ℕ) → r < n → rent-of (cents-of n rent ps) r ≡ floor-at n ps r +ℤ extra (missing-cents n rent ps) r
 cents-at n rent ps r l = getD-map-counting (λ r. floor-at n ps r +ℤ extra (missing-cents n rent ps) r) 0 n r r (pos 0) l (omega arith)
 
 -- Gains in cents are whole numbers: n × that by another room is less than 2 n above n × that by the own, so it is at most one cent above.

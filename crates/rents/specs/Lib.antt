@@ -1,3 +1,4 @@
 pub mod Faults
 pub mod Rents
 pub mod Shown
+pub mod Answer

@@ -1,5 +1,6 @@
 // The sheet that shows a share to be the fairest: writing one, checking one, and the two public calls, share and check.
 pub mod columns;
 pub mod verdict;
+pub mod write;
 
 pub use verdict::Verdict;

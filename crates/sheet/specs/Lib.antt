@@ -1,5 +1,7 @@
 pub mod Format
 pub mod Judge
 pub mod Verdicts
+pub mod Write
+pub mod Roundtrip
 pub mod Share
 pub mod Report

@@ -3,5 +3,6 @@ pub mod columns;
 pub mod report;
 pub mod share;
 pub mod verdict;
+pub mod write;
 
 pub use verdict::Verdict;

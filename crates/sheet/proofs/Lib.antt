@@ -1,1 +1,3 @@
 pub mod Padded
+mod Entered
+mod Shared

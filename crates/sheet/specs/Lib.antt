@@ -1,3 +1,4 @@
 pub mod Format
 pub mod Judge
 pub mod Verdicts
+pub mod Entries

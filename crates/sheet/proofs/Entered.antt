@@ -1,10 +1,13 @@
 -- What the tests of a claim say of the entries that stand in arrays.
 use mathlib.Core.Path.{_≡_, refl, ap, sym, _∙_}
-use mathlib.Core.Bool.{Bool, true, false, _&&_, _||_}
+use mathlib.Core.Bool.{Bool, true, false, not, _&&_, _||_}
+use mathlib.Core.Logic.{_⊎_, inl, inr}
 use mathlib.Core.List.{List, _++_, map}
 use Prim.Native.Nat.{ℕ, _+_, _-_, _*_, _<_}
 use lib.Dec.{eqb}
 use lib.IntN.{ℤ, pos, _+ℤ_}
+use mir.Syntax.{w128}
+use mir.Val.{SFits, ofZ, toZ}
 use lib.ListN.{getD, replicate, take}
 use lib.Signed.{ltZ}
 use Rattle.std.specs.Iters.{counting}
@@ -13,7 +16,10 @@ use Rattle.std.proofs.shelf.Lists.{getD-take, take-at}
 use Rattle.rooms.specs.Format.{most-people}
 use Rattle.rooms.specs.House.{House, room-of, value, worth-at}
 use Rattle.rooms.specs.Rows.{number}
-use Rattle.rents.specs.Faults.{number-fault}
+use Rattle.std.proofs.shelf.Signed.{toZ-ofZ}
+use Rattle.std.proofs.shelf.Tests.{both-ways, cases-bool, eq-eqb, ne-eqb, not-from-false, not-from-true}
+use Rattle.rents.specs.Faults.{differs, number-fault}
+use Rattle.rents.proofs.Faults.{differs-false, false-differs}
 use Rattle.sheet.specs.declared.entries.Entries.{Entries}
 use Rattle.sheet.specs.Entries.{claimed, entered}
 use Rattle.sheet.specs.Format.{Sheet, byte-column, column, sheet-of, signed-at}
@@ -64,3 +70,11 @@ module _ (h : House) (e : Entries) where
       same : (u u′ v v′ : ℤ) (o o′ x x′ : ℕ) → u ≡ u′ → v ≡ v′ → o ≡ o′ → x ≡ x′ →
           (ltZ (u +ℤ v) (pos x) || (eqb o r && ltZ (pos x) (u +ℤ v))) ≡ (ltZ (u′ +ℤ v′) (pos x′) || (eqb o′ r && ltZ (pos x′) (u′ +ℤ v′)))
       same u u′ v v′ o o′ x x′ a b c d = cc
+
+-- Numbers have different bits just where they differ.
+pub bits-differ : (a b : ℤ) → SFits w128 a → SFits w128 b → not (eqb (ofZ w128 a) (ofZ w128 b)) ≡ differs a b
+bits-differ a b f g = elim (cases-bool (differs a b)) [
+  | inr u ↦ not-from-true _ (eq-eqb _ _ (ap (ofZ w128) (differs-false a b u))) ∙ sym u
+  | inl u ↦
+      not-from-false _ (ne-eqb _ _ (λ e. both-ways _ (false-differs a b (sym (toZ-ofZ w128 a f) ∙ ap (toZ w128) e ∙ toZ-ofZ w128 b g)) u)) ∙ sym u
+]

@@ -1,3 +1,4 @@
 pub mod Padded
 mod Entered
 mod Shared
+mod Lengths

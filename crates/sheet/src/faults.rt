@@ -10,11 +10,11 @@ ghost use Rattle.rooms.specs.House.{Housed};
 ghost use Rattle.rooms.specs.Rows.{number, way};
 ghost use Rattle.rents.specs.Faults.{room-fault, number-fault, length-fault, way-fault};
 ghost use Rattle.sheet.specs.Entries.{claimed};
+use super::entries::Entries;
 use rooms::Group;
 use rooms::group::MOST_PEOPLE;
 use whole::wide_of;
 use whole::wide_sum;
-use super::entries::Entries;
 
 // The first person who has no room, or an earlier person's.
 pub fn first_room(group: &Group, entries: &Entries) -> usize

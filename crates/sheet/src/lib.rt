@@ -2,6 +2,7 @@
 pub mod columns;
 pub mod entries;
 pub mod faults;
+pub mod rows;
 pub mod verdict;
 
 pub use verdict::Verdict;

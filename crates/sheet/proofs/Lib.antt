@@ -2,3 +2,6 @@ pub mod Padded
 pub mod Pieces
 pub mod Roundtrips
 pub mod Sheets
+mod Entered
+mod Shared
+mod Lengths

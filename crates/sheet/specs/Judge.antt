@@ -12,8 +12,8 @@ use Rattle.rooms.specs.Format.Reading.{taken, refused}
 use Rattle.rooms.specs.House.{House}
 use Rattle.rooms.specs.Rows.{number}
 use Rattle.rents.specs.Rents.{rents-of}
-use Rattle.rents.specs.Faults.{differs, room-fault, number-fault, length-fault, way-fault, rent-fault}
 use Rattle.rents.specs.Shown.{Claim}
+use Rattle.rents.specs.Faults.{differs, room-fault, number-fault, length-fault, way-fault, rent-fault}
 use Rattle.cents.specs.Cents.{cents-of}
 use Rattle.sheet.specs.Format.{Sheet, sheet-length, sheet-of}
 

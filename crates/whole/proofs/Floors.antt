@@ -1,7 +1,7 @@
 -- Quotient and remainder toward lower numbers: they are what their names say, and no others are.
 use mathlib.Core.Path.{_≡_, refl, sym, ap}
 use Prim.Native.Nat.{ℕ, _/_, _<_}
-use native.Mathlib.Nat.{suc-mul}
+use native.Mathlib.Nat.{div-le-self, suc-mul}
 use native.Mathlib.Omega.{arith}
 use lib.IntN.{ℤ, pos, negsuc, natAbs, _+ℤ_, _*ℤ_}
 use lib.Signed.{_≤ℤ_, _<ℤ_}
@@ -9,6 +9,7 @@ use Rattle.std.proofs.shelf.Bits.{div-add-mod', mod-below}
 use Rattle.std.proofs.shelf.Signed.{ints, by-ltZ}
 use Rattle.std.specs.Numbers.{divEuclid, remEuclid}
 use Rattle.rooms.proofs.Product.{times-add, times-le}
+use Rattle.whole.specs.Bounds.{Within}
 use Rattle.whole.specs.Floor.{floor, rest, Floor-of, Floors, Only-floor, Rests, Only-rest, Moved}
 
 -- Of −(a + 1): with a = (a / n) · n + (a % n), it is −(a / n + 1) · n + (n − 1 − a % n).
@@ -63,3 +64,9 @@ pub euclid-rest : (a : ℤ) (n : ℕ) → natAbs (remEuclid a (pos n)) ≡ rest 
 unfolding rest
 euclid-rest (pos a) n = refl
 euclid-rest (negsuc a) n = refl
+
+-- A quotient is no further from nothing.
+pub floor-within : (b : ℕ) (a : ℤ) (n : ℕ) → Within b a → Within b (floor a n)
+unfolding floor
+floor-within b (pos a) n w = let d = div-le-self a n in record { low = omega (arith, ints); high = omega (arith, ints) }
+floor-within b (negsuc a) n w = let d = div-le-self a n in record { low = omega (arith, ints); high = omega (arith, ints) }

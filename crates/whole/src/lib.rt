@@ -18,6 +18,7 @@ pub use exact::sum;
 pub use floor::floor_div;
 pub use floor::floor_mod;
 pub use wide::wide_add;
+pub use wide::wide_floor;
 pub use wide::wide_of;
 pub use wide::wide_sub;
 pub use wide::wide_sum;
@@ -82,6 +83,7 @@ mod tests {
         check_eq(least, -0x1_0000_0000_0000_0000)?;
         check_eq(wide_sub(least, wide_of(1)), -0x1_0000_0000_0000_0001)?;
         check_eq(wide_times(least, 24), -0x18_0000_0000_0000_0000)?;
+        check_eq(wide_floor(least, 24), -768_614_336_404_564_651)?;
         check_eq(wide_add(least, least), -0x2_0000_0000_0000_0000)
     }
 }

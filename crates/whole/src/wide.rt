@@ -1,9 +1,10 @@
 // Exact numbers of 128 bits, for numbers of 64 bits of which nothing is known: any two have a sum, and a million of them
 // are far from the end.
 ghost use mathlib.Core.Path.{_≡_};
-ghost use Prim.Native.Nat.{_^_, _≤_};
+ghost use Prim.Native.Nat.{_^_, _≤_, _<_};
 ghost use lib.IntN.{pos, _+ℤ_, _-ℤ_, _*ℤ_};
 ghost use Rattle.whole.specs.Bounds.{Within};
+ghost use Rattle.whole.specs.Floor.{floor};
 
 pub fn wide_of(a: i64) -> i128
     ensures value { λ r. ⌜ r ≡ a ⌝ }
@@ -41,4 +42,12 @@ pub fn wide_times(a: i128, n: u32) -> i128
     ensures within { λ r. ⌜ Within (2 ^ 120) r ⌝ }
 {
     a * n as i128
+}
+
+pub fn wide_floor(a: i128, n: u32) -> i128
+    requires { ⌜ 0 < n ⌝ ∗ ⌜ Within (2 ^ 120) a ⌝ }
+    ensures value { λ r. ⌜ r ≡ floor a n ⌝ }
+    ensures within { λ r. ⌜ Within (2 ^ 120) r ⌝ }
+{
+    a.div_euclid(n as i128)
 }

@@ -1,5 +1,4 @@
 -- Every house with somebody in it has a fairest share: turn the sharing along rows around until none is longer than nothing.
-use mathlib.Core.Path.{_≡_}
 use mathlib.Core.Logic.{_⊎_, inl, inr}
 use mathlib.Core.List.{List, map}
 use Prim.Native.Nat.{ℕ, zero, suc, _<_}
@@ -9,7 +8,7 @@ use lib.Signed.{_≤ℤ_, _<ℤ_}
 use Rattle.std.specs.Iters.{counting}
 use Rattle.std.proofs.shelf.Signed.{ints}
 use Rattle.rooms.specs.House.{House, Housed, joint, room-of, sum, value}
-use Rattle.rooms.specs.Promise.{Always, Best-sharing}
+use Rattle.rooms.specs.Promise.{Always}
 use Rattle.rooms.specs.Rows.{Longest, number, way}
 use Rattle.rooms.proofs.Longest.{Circle, longest-or-circle}
 use Rattle.rooms.proofs.Sharing.{best}

@@ -1,8 +1,7 @@
 -- The rents made from the longest rows are the fairest.
-use mathlib.Core.Path.{_≡_, refl, sym, ap, subst, _∙_}
-use mathlib.Core.Logic.{_⊎_, inl, inr}
+use mathlib.Core.Path.{_≡_, refl, sym, ap, _∙_}
 use mathlib.Core.List.{List, [], _∷_}
-use Prim.Native.Nat.{ℕ, _*_, _≤_, _<_}
+use Prim.Native.Nat.{ℕ, _*_, _<_}
 use native.Mathlib.Omega.{arith}
 use lib.IntN.{ℤ, pos, _+ℤ_, _-ℤ_, _*ℤ_}
 use lib.Signed.{_≤ℤ_}
@@ -12,15 +11,15 @@ use Rattle.std.proofs.shelf.Counted.{getD-map-counting, length-map-counting}
 use Rattle.std.proofs.shelf.Signed.{ints}
 use Rattle.std.proofs.shelf.Tests.{eq-eqb, ne-eqb}
 use Rattle.rooms.specs.House.{House, Housed, Settled, gain, joint, own-gain, rent-of, room-of, sum, total, value}
-use Rattle.rooms.specs.Promise.{Fairest, Poorest}
-use Rattle.rooms.specs.Rows.{Longest, Row, begin, long, number, way}
+use Rattle.rooms.specs.Promise.{Poorest}
+use Rattle.rooms.specs.Rows.{Row, begin, long, number, way}
 use Rattle.rooms.proofs.First.{first-is}
 use Rattle.rooms.proofs.Longest.{no-more}
 use Rattle.rooms.proofs.Product.{times-add, times-both, times-cancel, times-le, times-none, times-sub, times-turn}
 use Rattle.rooms.proofs.Row.{row-begin, row-end}
 use Rattle.rooms.proofs.Sharing.{any-best, best, holder, poorest, sum-gain}
 use Rattle.rooms.proofs.Sum.{sum-add, sum-const, sum-le, sum-same, sum-tight, sum-times}
-use Rattle.rents.specs.Rents.{Least-spare, Made, Made-fairest, None-more, Rents, Rents-add-up, Rents-exist, Rents-settle, Same-rents, due, rents-of, spare, whose}
+use Rattle.rents.specs.Rents.{Least-spare, Made, Made-fairest, None-more, Rents, Rents-add-up, Rents-exist, Rents-settle, Same-rents, due, spare, whose}
 
 -- What never falls along a way is at least T and the length of a row. By induction along the row.
 along : (h : House) (room : List ℕ) (m : ℕ) (T : ℤ) (G : ℕ → ℤ) → ((i : ℕ) → i < h .n → T ≤ℤ G i) →

@@ -1,3 +1,4 @@
 pub mod Fair
 pub mod Shown
+pub mod Faults
 pub mod Always

@@ -1,7 +1,8 @@
 // The theory of the fairest rents: each function computes nothing, and its contract is what is proved.
 ghost use Rattle.rooms.specs.Promise.{Always};
 ghost use Rattle.rents.specs.Rents.{Least-spare, Made-fairest, None-more, Rents-add-up, Rents-exist, Rents-settle, Same-rents};
-ghost use Rattle.rents.specs.Shown.{Shown-fairest, Shows-decides};
+ghost use Rattle.rents.specs.Shown.{Shown-fairest};
+ghost use Rattle.rents.specs.Faults.{Shows-decides};
 
 pub fn rents_stands()
     ensures exist { λ _. ⌜ Rents-exist ⌝ }

@@ -1,19 +1,16 @@
 -- Going back along the persons before: it gives a row whose length is the person's number, and it ends just where nobody stands on a circle.
 use mathlib.Core.Path.{_≡_, refl, sym, ap, subst, _∙_}
 use mathlib.Core.Logic.{_⊎_, inl, inr}
-use mathlib.Core.Bool.{Bool, true, false, not, _&&_, _||_}
+use mathlib.Core.Bool.{true, false, not}
 use mathlib.Core.List.{List, [], _∷_}
 use Prim.Native.Nat.{ℕ, zero, suc, _+_, _-_, _≤_, _<_}
 use native.Mathlib.Omega.{arith}
-use lib.Dec.{eqb}
-use lib.IntN.{ℤ, pos, _+ℤ_}
-use lib.Signed.{_≤ℤ_}
-use Rattle.std.proofs.shelf.Signed.{ints}
-use Rattle.std.proofs.shelf.Tests.{and-from, and-parts, both-ways, cases-bool, cases-eq, eq-eqb, eqb-false, eqb-true, ne-eqb, not-from-false, not-true, or-cases, or-left, or-right}
+use lib.IntN.{ℤ, _+ℤ_}
+use Rattle.std.proofs.shelf.Tests.{and-from, and-parts, both-ways, cases-bool, cases-eq, eq-eqb, eqb-true, ne-eqb, not-from-false, or-cases, or-left, or-right}
 use Rattle.rooms.specs.House.{House}
-use Rattle.rooms.specs.Rows.{Apart, Longest, Row, long, number, way}
-use Rattle.rooms.specs.Before.{Comes, Ends, Ends-or-circle, Rows-shown, Shown-longest, leads-back, nobody, on-circle, prior}
-use Rattle.rooms.proofs.Find.{Twice, pigeonhole}
+use Rattle.rooms.specs.Rows.{Apart, Row, long, number, way}
+use Rattle.rooms.specs.Before.{Ends, Ends-or-circle, Rows-shown, Shown-longest, leads-back, nobody, on-circle, prior}
+use Rattle.rooms.proofs.Find.{pigeonhole}
 use Rattle.rooms.proofs.Longest.{none-longer}
 
 module _ (before : List ℕ) where

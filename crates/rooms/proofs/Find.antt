@@ -3,7 +3,7 @@ use mathlib.Core.Path.{_≡_, sym, subst}
 use mathlib.Core.Logic.{_⊎_, inl, inr}
 use Prim.Native.Nat.{ℕ, zero, suc, _≤_, _<_}
 use native.Mathlib.Omega.{arith}
-use Rattle.std.proofs.shelf.Tests.{cases-eq, cases-lt, cases-order}
+use Rattle.std.proofs.shelf.Tests.{cases-eq, cases-order}
 use Rattle.rooms.proofs.Reorder.{onto}
 
 -- One of which P holds, or Q of each.

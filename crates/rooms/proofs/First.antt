@@ -1,12 +1,12 @@
 -- The first number at which a test holds: the test fails before it, holds at it, and there is only one such number.
-use mathlib.Core.Path.{_≡_, refl, sym, ap, subst, _∙_}
+use mathlib.Core.Path.{_≡_, refl, ap, _∙_}
 use mathlib.Core.Logic.{_⊎_, inl, inr}
 use mathlib.Core.Bool.{Bool, true, false, cond}
 use Prim.Native.Nat.{ℕ, zero, suc, _≤_, _<_}
 use native.Mathlib.Omega.{arith}
 use lib.Dec.{eqb, ltb}
 use Rattle.std.specs.Orderings.{Decides}
-use Rattle.std.proofs.shelf.Tests.{le-ltb, lt-ltb, ltb-true, ltb-false, eqb-true, eq-eqb, both-ways, cases-bool, cases-eq}
+use Rattle.std.proofs.shelf.Tests.{le-ltb, ltb-true, ltb-false, eqb-true, eq-eqb, both-ways, cases-bool, cases-eq}
 use Rattle.rooms.specs.First.{first, or-here, some}
 
 -- What one more number does: a first one stays, else it is this number or the one after.

@@ -1,25 +1,23 @@
 -- Longest rows: lengthen rows by ways until no way leads to more, or until a row around is longer than nothing.
-use mathlib.Core.Path.{_≡_, refl, sym, ap, subst, _∙_}
+use mathlib.Core.Path.{_≡_, refl, sym, ap}
 use mathlib.Core.Logic.{_⊎_, inl, inr}
-use mathlib.Core.Bool.{Bool, true, false, cond}
+use mathlib.Core.Bool.{cond}
 use mathlib.Core.List.{List, [], _∷_, map}
-use Prim.Native.Nat.{ℕ, zero, suc, _≤_, _<_}
+use Prim.Native.Nat.{ℕ, zero, suc, _<_}
 use native.Mathlib.Omega.{arith}
 use lib.Dec.{eqb}
-use lib.IntN.{ℤ, pos, natAbs, _+ℤ_, _-ℤ_}
+use lib.IntN.{ℤ, pos, natAbs, _+ℤ_}
 use lib.Signed.{_≤ℤ_, _<ℤ_}
-use lib.ListN.{length}
-use borrow.Author.Tests.{eqb-true, eqb-apart, apart-eqb, eq-eqb}
+use borrow.Author.Tests.{apart-eqb, eq-eqb}
 use Rattle.std.specs.Iters.{counting}
 use Rattle.std.proofs.shelf.Counted.{getD-map-counting, length-map-counting}
 use Rattle.std.proofs.shelf.Signed.{ints, by-ltZ}
 use Rattle.std.proofs.shelf.Tests.{cases-eq}
-use Rattle.rooms.specs.House.{House, Housed, joint, room-of, sum, value}
-use Rattle.rooms.specs.Promise.{Best-sharing}
+use Rattle.rooms.specs.House.{House, joint, room-of, sum, value}
 use Rattle.rooms.specs.Rows.{Apart, Longest, Row, begin, long, number, way}
 use Rattle.rooms.specs.Sharing.{Longest-exists, No-more}
 use Rattle.rooms.proofs.Find.{find}
-use Rattle.rooms.proofs.Row.{Parted, part, row-begin, row-end}
+use Rattle.rooms.proofs.Row.{Parted, part, row-end}
 use Rattle.rooms.proofs.Sum.{sum-but, sum-le, term-le}
 use Rattle.rooms.proofs.Turn.{best-around}
 

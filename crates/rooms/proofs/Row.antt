@@ -1,14 +1,14 @@
 -- Rows: where they end and begin, how long they are in a certified sharing, and a row taken apart at somebody who stands in it.
-use mathlib.Core.Path.{_≡_, refl, sym, ap, subst, _∙_}
+use mathlib.Core.Path.{_≡_, sym, ap, subst}
 use mathlib.Core.Logic.{_⊎_, inl, inr}
 use mathlib.Core.List.{List, [], _∷_}
 use Prim.Native.Nat.{ℕ, _<_}
 use native.Mathlib.Omega.{arith}
-use lib.IntN.{ℤ, pos, _+ℤ_, _-ℤ_}
+use lib.IntN.{ℤ, _+ℤ_}
 use lib.Signed.{_≤ℤ_}
 use Rattle.std.proofs.shelf.Signed.{ints}
 use Rattle.std.proofs.shelf.Tests.{cases-eq}
-use Rattle.rooms.specs.House.{House, room-of, value}
+use Rattle.rooms.specs.House.{House, room-of}
 use Rattle.rooms.specs.Rows.{Apart, Certified, Row, begin, long, number, way}
 use Rattle.rooms.specs.Sharing.{Certified-around, Row-within}
 

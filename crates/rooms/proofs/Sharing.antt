@@ -1,16 +1,16 @@
 -- Sums over a sharing; no sharing is worth more than a settled or a certified one; rents that settle one best sharing settle every other.
-use mathlib.Core.Path.{_≡_, refl, sym, ap, _∙_}
-use mathlib.Core.Logic.{_⊎_, inl, inr}
+use mathlib.Core.Path.{_≡_, ap}
+use mathlib.Core.Logic.{inl, inr}
 use mathlib.Core.List.{List}
 use Prim.Native.Nat.{ℕ, zero, suc, _<_}
 use native.Mathlib.Omega.{arith}
 use lib.IntN.{ℤ, pos, _+ℤ_, _-ℤ_, _*ℤ_}
-use lib.Signed.{_≤ℤ_, _<ℤ_}
+use lib.Signed.{_≤ℤ_}
 use Rattle.std.proofs.shelf.Signed.{ints, by-ltZ}
 use Rattle.std.proofs.shelf.Tests.{cases-eq}
-use Rattle.rooms.specs.House.{House, Housed, Settled, gain, joint, own-gain, rent-of, room-of, sum, total, value}
-use Rattle.rooms.specs.Promise.{Any-best, At-least, Best, Fairest, Fairest-at-least, Poorest}
-use Rattle.rooms.specs.Rows.{Certified, number}
+use Rattle.rooms.specs.House.{House, Housed, gain, joint, own-gain, rent-of, room-of, sum, total, value}
+use Rattle.rooms.specs.Promise.{Any-best, Best, Fairest-at-least, Poorest}
+use Rattle.rooms.specs.Rows.{number}
 use Rattle.rooms.specs.Sharing.{Certified-best, Onto, Same-sum}
 use Rattle.rooms.proofs.Product.{times-cancel, times-le}
 use Rattle.rooms.proofs.Reorder.{Permutation, onto, sum-permuted}

@@ -1,13 +1,10 @@
 -- The sharing turned along a row: everybody takes the room of the one before, and who begins it the room of the one at its end. It is worth just as
 -- much more as the row around is long.
 use mathlib.Core.Path.{_≡_, refl, sym, ap, _∙_}
-use mathlib.Core.Logic.{_⊎_, inl, inr}
 use mathlib.Core.List.{List, [], _∷_, map}
-use Prim.Native.Nat.{ℕ, _≤_, _<_}
+use Prim.Native.Nat.{ℕ, _<_}
 use native.Mathlib.Omega.{arith}
-use lib.IntN.{ℤ, pos, _+ℤ_, _-ℤ_}
-use lib.Signed.{_≤ℤ_, _<ℤ_}
-use lib.ListN.{length}
+use lib.IntN.{ℤ, _+ℤ_, _-ℤ_}
 use Rattle.std.specs.Iters.{counting}
 use Rattle.std.proofs.shelf.Counted.{getD-map-counting, length-map-counting}
 use Rattle.std.proofs.shelf.Signed.{ints}
@@ -15,7 +12,7 @@ use Rattle.rooms.specs.House.{House, Housed, joint, room-of, sum, value}
 use Rattle.rooms.specs.Rows.{Apart, Row, begin, long, way}
 use Rattle.rooms.specs.Sharing.{Best-around}
 use Rattle.rooms.proofs.Reorder.{Permutation, swap, swap-is, swap-own}
-use Rattle.rooms.proofs.Row.{apart-begin, row-begin, row-end}
+use Rattle.rooms.proofs.Row.{apart-begin, row-begin}
 use Rattle.rooms.proofs.Sharing.{permutation}
 use Rattle.rooms.proofs.Sum.{sum-but-two, sum-same}
 

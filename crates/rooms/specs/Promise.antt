@@ -4,7 +4,7 @@ use mathlib.Core.List.{List}
 use Prim.Native.Nat.{ℕ, _<_}
 use lib.IntN.{ℤ, pos, _*ℤ_}
 use lib.Signed.{_≤ℤ_}
-use Rattle.rooms.specs.House.{House, Housed, Settled, joint, room-of, rent-of, gain, own-gain}
+use Rattle.rooms.specs.House.{House, Housed, Settled, joint, own-gain, rent-of}
 
 -- Person j has least: nobody gains less by their own room.
 pub record Poorest (h : House) (room : List ℕ) (d : ℕ) (ps : List ℤ) (j : ℕ) : Type 0 where

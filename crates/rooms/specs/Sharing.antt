@@ -1,5 +1,5 @@
--- What is proved of sharings: sums over them, what shows that one is best, and that rows in a best one end. Each is a statement; a contract that names
--- it is proved. Assumes nothing: these are definitions.
+-- What is proved of sharings: sums over them, what shows that one is best, and the rows in a best one. Each is a statement; a contract that names it is
+-- proved. Assumes nothing: these are definitions.
 use mathlib.Core.Path.{_≡_}
 use mathlib.Core.List.{List}
 use Prim.Native.Nat.{ℕ, _<_}
@@ -25,6 +25,7 @@ Certified-best = (h : House) (room : List ℕ) (u v : List ℤ) → Certified h 
 abbrev pub Around : House → List ℕ → Type 0
 Around h room = (i : ℕ) (xs : List ℕ) → Row (h .n) i xs → (long h room i xs +ℤ way h room i (begin i xs)) ≤ℤ pos 0
 
+-- So it is in a best sharing, and so the numbers for the joint worth show by themselves.
 abbrev pub Best-around : Type 0
 Best-around = (h : House) (room : List ℕ) → Housed h room → Best-sharing h room → Around h room
 

@@ -121,6 +121,14 @@ impl<'a> Group<'a> {
         word_at(self.bytes, 1)
     }
 
+    // What room r is worth to person i.
+    pub fn worth(&self, i: usize, r: usize) -> u32
+        requires { ⌜ i < house-of (now (now self .bytes)) .n ⌝ ∗ ⌜ r < house-of (now (now self .bytes)) .n ⌝ }
+        ensures { λ x. ⌜ x ≡ worth-at (house-of (now (now (self .entry) .bytes))) i r ⌝ }
+    {
+        worth_word(self.bytes, i * self.n + r)
+    }
+
     // What each room is worth to person i, and nothing past the n rooms.
     pub fn row(&self, i: usize) -> [u32; MOST_PEOPLE]
         requires { ⌜ i < house-of (now (now self .bytes)) .n ⌝ }

@@ -1,11 +1,10 @@
-use mathlib.Core.Path.{_≡_, sym, subst, _∙_}
+use mathlib.Core.Path.{_≡_, _∙_}
 use native.Mathlib.Omega.{arith}
 use Prim.Native.Nat.{_<_, _^_}
-use lib.IntN.{ℤ}
 use mir.Val.{SFits, hbits, ofZ, toZ}
 use mir.Syntax.{w64}
 use Rattle.std.proofs.shelf.Signed.{toZ-ofZ, toZ-pos}
-use Rattle.whole.specs.Floor.{floor, Floor-of}
+use Rattle.whole.specs.Floor.{floor}
 use Rattle.whole.proofs.Floors.{floors, euclid-floor}
 use Rattle.whole.proofs.floor.floor_div.Needs as need
 

@@ -1,0 +1,4 @@
+pub mod Houses
+pub mod Shares
+pub mod Table
+pub mod Unfair

@@ -4,24 +4,20 @@ use mathlib.Core.Logic.{inl, inr}
 use mathlib.Core.Bool.{Bool, true, false, not, _&&_}
 use mathlib.Core.List.{List, [], _∷_}
 use Prim.Native.Nat.{ℕ, _<_}
-use native.Mathlib.Omega.{arith}
 use lib.Dec.{eqb, leb, ltb}
 use lib.IntN.{ℤ, pos, _*ℤ_}
 use lib.Signed.{_≤ℤ_, ltZ}
 use lib.ListN.{length}
-use Rattle.std.proofs.shelf.Signed.{ints}
 use Rattle.std.proofs.shelf.Tests.{and-cases, and-parts, both-ways, eq-eqb, eqb-true, leb-true, ltb-true, not-false, not-true}
 use Rattle.rooms.specs.House.{House, Housed, Settled, gain, own-gain, room-of, total}
 use Rattle.rooms.specs.Rows.{number}
 use Rattle.rooms.specs.First.{some}
 use Rattle.rooms.proofs.First.{some-false}
-use Rattle.rents.specs.Shown.{differs, shows}
-use Rattle.rents.proofs.Shown.{differs-false, shown-fairest, shows-decides}
+use Rattle.rents.specs.Faults.{differs, shows}
+use Rattle.rents.proofs.Faults.{differs-false, less-false, shows-decides}
+use Rattle.rents.proofs.Shown.{shown-fairest}
 use Rattle.houses.specs.Shares.{Entry}
 use Rattle.houses.specs.Table.{All-stand, Stands}
-
-less-false : (a b : ℤ) → ltZ a b ≡ false → b ≤ℤ a
-less-false a b e = grind (arith, ints)
 
 -- The test holds at no number below n, and at no two.
 abbrev never : (ℕ → Bool) → ℕ → Bool

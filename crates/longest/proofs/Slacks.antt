@@ -76,6 +76,11 @@ module _ (h : House) (room u v : List ℕ) (c : Certified h room (signed u) (sig
           (ends-up (before-of h room u v) (suc (rounds-of h room u v)) (h .n - suc (rounds-of h room u v)) i (end .grown .ends i l));
     }
 
+-- Everybody has a person before, or nobody.
+pub befores-long : (h : House) (room u v : List ℕ) → Certified h room (signed u) (signed v) → 0 < h .n → h .n ≤ nobody → h .n ≤ length u →
+    length (before-of h room u v) ≡ h .n
+befores-long h room u v c some few fits = end h room u v c some few fits .grown .sizes
+
 pub search-ends : Search-ends
 search-ends h room u v some few fits c = (run-shown h room u v c some few fits, rounds-few h room u v c some few fits)
 

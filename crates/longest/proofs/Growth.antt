@@ -15,7 +15,8 @@ use Rattle.std.proofs.shelf.Sums.{sumBy-set, getD-le-sumBy}
 use Rattle.std.proofs.shelf.Counted.{getD-map-counting, length-map-counting}
 use Rattle.std.proofs.shelf.Ways.{tells}
 use Rattle.rooms.specs.Before.{nobody, prior, Ends}
-use Rattle.longest.specs.Run.{at, offers, through}
+use Rattle.assignment.specs.Search.{at}
+use Rattle.longest.specs.Run.{offers, through}
 use Rattle.longest.proofs.Nearest.{Next}
 
 -- What the offers are worth: none is above what a row through anybody below m leaves, and one below what is left comes from a person it is made by.

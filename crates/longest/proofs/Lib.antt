@@ -6,4 +6,3 @@ mod Passing
 mod Lines
 pub mod Padded
 mod Outcome
-pub mod Checked

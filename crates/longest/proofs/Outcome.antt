@@ -16,22 +16,24 @@ use Rattle.rooms.specs.House.{House, room-of}
 use Rattle.rooms.specs.Format.{most-people, most-worth, Allowed}
 use Rattle.rooms.specs.Rows.{Longest, number, signed, way}
 use Rattle.rooms.specs.Before.{nobody, prior, Ends, Rows-shown}
-use Rattle.longest.specs.Run.{at, slack, in-table, Table, State, run, start, state, Offers, whole-run}
-use Rattle.longest.specs.Promise.{Numbered, Found, longest-of, before-of}
+use Rattle.assignment.specs.Search.{at}
+use Rattle.longest.specs.Run.{slack, in-table, Table, State, run, start, state, Offers, whole-run}
+use Rattle.assignment.specs.Promise.{Solved}
+use Rattle.longest.specs.Promise.{Found, longest-of, before-of}
 use Rattle.longest.proofs.Lines.{Filled}
 use Rattle.longest.proofs.Rounds.{whole-same, map-same}
 use Rattle.longest.proofs.Slacks.{number-signed, left-within, run-shown, rounds-few}
 use Rattle.rooms.proofs.Before.{shown-longest}
 use Rattle.longest.proofs.Padded.{padded-reads}
 
-module _ (h : House) (room u v : List ℕ) (q : Numbered h room u v) (n : ℕ) (e : n ≡ h .n) (few : n ≤ most-people) (table : List ℕ) (size : length table ≡ n * n)
+module _ (h : House) (room u v : List ℕ) (q : Solved h most-worth room u v) (n : ℕ) (e : n ≡ h .n) (few : n ≤ most-people) (table : List ℕ) (size : length table ≡ n * n)
     (filled : Filled n (slack h room u v) n table) where
   -- A slack is at most the two numbers that it is made of.
   pub table-of : Table n table
   table-of = record {
     few = few;
     size = size;
-    small = λ k i hk hi. omega (arith, filled k i hk hi, q .persons i (omega arith), q .prices (room-of room k) (q .certified .housed .each k (omega arith)));
+    small = λ k i hk hi. omega (arith, filled k i hk hi, q .persons-low i (omega arith), q .prices-low (room-of room k) (q .certified .housed .each k (omega arith)));
   }
 
   module _ (l b : List ℕ) (o : Offers) (m : ℕ) (x : state l b o m ≡ run (in-table table n) n n (start (in-table table n) n u)) where
@@ -84,7 +86,7 @@ shown-same h room b w d e p q f = record {
   ends = λ i l. ends-same b w q (h .n) i (f .ends i l);
 }
 
-module _ (h : House) (room u v : List ℕ) (q : Numbered h room u v) (a : Allowed h) (fits : h .n ≤ length u) (d w : List ℕ) (m : ℕ) (f : Found h room u v d w m) where
+module _ (h : House) (room u v : List ℕ) (q : Solved h most-worth room u v) (a : Allowed h) (fits : h .n ≤ length u) (d w : List ℕ) (m : ℕ) (f : Found h room u v d w m) where
   pub found-shown : Rows-shown h room (signed d) w
   found-shown = shown-same h room (before-of h room u v) w (signed (longest-of h room u v)) (signed d)
       (λ i. number-signed d i ∙ ap pos (ap (λ x. at x i) (f .lengths) ∙ padded-reads (longest-of h room u v) (most-people - h .n) 0 i) ∙ sym (number-signed (longest-of h room u v) i))
@@ -101,7 +103,7 @@ module _ (h : House) (room u v : List ℕ) (q : Numbered h room u v) (a : Allowe
       let e = ap (λ x. at x i) (f .lengths) ∙ padded-reads (longest-of h room u v) (most-people - h .n) 0 i in
       let g = λ (j : ℕ). at u j - at (whole-run h room u v .left) j in
       elim (cases-lt i (h .n)) [
-        | inl l ↦ omega (arith, e, getD-map-counting g 0 (h .n) i i 0 l (omega arith), q .persons i l)
+        | inl l ↦ omega (arith, e, getD-map-counting g 0 (h .n) i i 0 l (omega arith), q .persons-low i l)
         | inr l ↦ omega (arith, e, getD-past (longest-of h room u v) i 0 (omega (arith, length-map-counting g 0 (h .n))))
       ]
 

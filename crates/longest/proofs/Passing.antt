@@ -12,7 +12,8 @@ use borrow.Author.Count.{below-more}
 use Rattle.std.proofs.shelf.Bits.{mul-add-lt}
 use Rattle.std.proofs.shelf.Tests.{lt-ltb, le-ltb, cond-true, cond-false}
 use Rattle.std.proofs.shelf.Counted.{fill-by-all}
-use Rattle.longest.specs.Run.{at, offers, through}
+use Rattle.assignment.specs.Search.{at}
+use Rattle.longest.specs.Run.{offers, through}
 
 -- Person k's place in the line of person i lies in the table.
 pub in-line : (i k n m : ℕ) → i < n → k < n → m ≡ n * n → i * n + k < m

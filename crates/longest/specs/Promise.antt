@@ -9,17 +9,12 @@ use Rattle.rooms.specs.House.{House}
 use Rattle.rooms.specs.Format.{most-people, most-worth}
 use Rattle.rooms.specs.Rows.{Certified, Longest, number, signed, way}
 use Rattle.rooms.specs.Before.{nobody, Rows-shown}
-use Rattle.longest.specs.Run.{at, whole-run}
+use Rattle.assignment.specs.Search.{at}
+use Rattle.longest.specs.Run.{whole-run}
 
 -- How many numbers of work n people take: a slack for each way.
 abbrev pub work-len : ℕ → ℕ
 work-len n = n * n
-
--- A sharing with numbers that show it best, none above the greatest worth.
-pub record Numbered (h : House) (room u v : List ℕ) : Type 0 where
-  pub certified : Certified h room (signed u) (signed v)
-  pub persons : (i : ℕ) → i < h .n → at u i ≤ most-worth
-  pub prices : (r : ℕ) → r < h .n → at v r ≤ most-worth
 
 -- The lengths d of the longest rows, the persons before and the count of rounds, as functions of the house, the sharing and its numbers. Which of
 -- several longest rows is shown depends on the ties; d does not, since only one list is Longest.

@@ -8,11 +8,8 @@ use lib.ListN.{length, getD, set, take, replicate}
 use Rattle.std.specs.Iters.{counting}
 use Rattle.rooms.specs.House.{House, worth-at, room-of}
 use Rattle.rooms.specs.Format.{most-people, most-worth}
+use Rattle.assignment.specs.Search.{at}
 use Rattle.rooms.specs.Before.{nobody}
-
--- A natural number of a list of them.
-abbrev pub at : List ℕ → ℕ → ℕ
-at xs i = getD xs i 0
 
 -- The slack of the way from k to i, by the numbers u of the persons and v of the rooms: what i's number and that of k's room have above what k's
 -- room is worth to i. The way is u(i) − u(k) less its slack.

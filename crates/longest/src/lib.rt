@@ -1,15 +1,17 @@
 // The longest rows of ways among people: for a sharing of highest joint worth, the length of the longest row of ways that ends at each person, and
 // who stands before them in it.
 ghost use mathlib.Core.Path.{_≡_};
-ghost use mathlib.Core.List.{map, _++_, _∷_};
+ghost use mathlib.Core.List.{map, _++_};
 ghost use Prim.Native.Nat.{ℕ, _+_, _-_, _*_, _<_, _≤_};
 ghost use lib.ListN.{length, drop, take, replicate};
 ghost use Rattle.std.specs.Iters.{counting};
 ghost use Rattle.rooms.specs.Format.{most-people, most-worth, house-of};
 ghost use Rattle.rooms.specs.Rows.{Longest, signed};
 ghost use Rattle.rooms.specs.Before.{nobody, Rows-shown};
-ghost use Rattle.longest.specs.Run.{at, slack, in-table, Table, offers, through, first-offers, state, nearer, run, start};
-ghost use Rattle.longest.specs.Promise.{work-len, Numbered, Found, Search-ends, One-longest};
+ghost use Rattle.assignment.specs.Search.{at};
+ghost use Rattle.longest.specs.Run.{slack, in-table, Table, offers, through, first-offers, state, nearer, run, start};
+ghost use Rattle.assignment.specs.Promise.{Solved};
+ghost use Rattle.longest.specs.Promise.{work-len, Found, Search-ends, One-longest};
 use rooms::Group;
 use rooms::group::MOST_PEOPLE;
 
@@ -40,7 +42,7 @@ pub fn longest_rows(
     prices: [u64; MOST_PEOPLE],
     work: &mut [u64],
 ) -> LongestRows
-    requires numbered { ⌜ Numbered (house-of (now (now group .bytes))) (now rooms) persons prices ⌝ }
+    requires solved { ⌜ Solved (house-of (now (now group .bytes))) most-worth (now rooms) persons prices ⌝ }
     requires enough { ⌜ work-len (house-of (now (now group .bytes)) .n) ≤ length (now work) ⌝ }
     ensures found { λ r. ⌜ Found (house-of (now (now (group .entry) .bytes))) (now (rooms .entry)) persons prices (r .d) (r .before) (r .rounds) ⌝ }
     ensures shown { λ r. ⌜ Rows-shown (house-of (now (now (group .entry) .bytes))) (now (rooms .entry)) (signed (r .d)) (r .before) ⌝ }
@@ -106,7 +108,7 @@ fn write_table(
     table: &mut [u64],
 )
     requires group { ⌜ n ≡ house-of (now (now group .bytes)) .n ⌝ ∗ ⌜ n ≤ most-people ⌝ }
-    requires numbered { ⌜ Numbered (house-of (now (now group .bytes))) (now rooms) persons prices ⌝ }
+    requires solved { ⌜ Solved (house-of (now (now group .bytes))) most-worth (now rooms) persons prices ⌝ }
     requires size { ⌜ length (now table) ≡ n * n ⌝ }
     ensures { λ _. ⌜ ((k i : ℕ) → k < n → i < n → in-table (now (table .exit)) n k i ≡ slack (house-of (now (now (group .entry) .bytes))) (now (rooms .entry)) persons prices k i) ⌝ }
 {
@@ -227,7 +229,7 @@ fn find(
     table: &mut [u64],
 ) -> LongestRows
     requires group { ⌜ n ≡ house-of (now (now group .bytes)) .n ⌝ ∗ ⌜ 0 < n ⌝ ∗ ⌜ n ≤ most-people ⌝ }
-    requires numbered { ⌜ Numbered (house-of (now (now group .bytes))) (now rooms) persons prices ⌝ }
+    requires solved { ⌜ Solved (house-of (now (now group .bytes))) most-worth (now rooms) persons prices ⌝ }
     requires size { ⌜ length (now table) ≡ n * n ⌝ }
     ensures { λ r. ⌜ Found (house-of (now (now (group .entry) .bytes))) (now (rooms .entry)) persons prices (r .d) (r .before) (r .rounds) ⌝ }
 {
@@ -255,35 +257,33 @@ fn find(
 #[cfg(test)]
 mod tests {
     use super::*;
+    use assignment::assign;
     use rooms::refusal::RefusalDebug;
     use std::test::*;
 
-    // Four numbers, and nothing past them.
-    fn four(a: u64, b: u64, c: u64, d: u64) -> [u64; MOST_PEOPLE]
-        ensures { λ r. ⌜ r ≡ a ∷ (b ∷ (c ∷ (d ∷ replicate 20 0))) ⌝ }
-    {
-        let mut x = [0; MOST_PEOPLE];
-        x[0] = a;
-        x[1] = b;
-        x[2] = c;
-        x[3] = d;
-        x
+    // What is found of the best sharing of a group, and that work is clean after.
+    fn agrees(bytes: &[u8], d: &[u64], before: &[u8], rounds: usize) -> Result<(), Fail> {
+        Group::validate(bytes)?;
+        let group = Group::new(bytes);
+        let mut rooms = [0; MOST_PEOPLE];
+        let mut work = [7; 744];
+        let best = assign(&group, &mut rooms, &mut work);
+        let found = longest_rows(&group, &rooms, best.persons, best.rooms, &mut work);
+        check(d.len() < MOST_PEOPLE && before.len() == d.len())?;
+        for i in 0..d.len() {
+            check(found.d[i] == d[i])?;
+            check(found.before[i] == before[i])?;
+        }
+        check(found.d[d.len()] == 0 && found.before[d.len()] == NOBODY)?;
+        check(found.rounds == rounds && work[0] == 0)
     }
 
-    // The house of three that was worked by hand: person 2 stands before person 1.
+    // The house of three that was worked by hand: person 1 sees 5000 more in somebody's room.
     #[test]
     fn worked_house() -> Result<(), Fail> {
         let bytes =
             b"\x03\x90\x5f\x01\0\x60\xea\0\0\x30\x75\0\0\x20\x4e\0\0\x50\xc3\0\0\x40\x9c\0\0\x30\x75\0\0\xd8\xd6\0\0\xb8\x88\0\0\xa8\x61\0\0";
-        let persons = four(10000, 15000, 10000, 0);
-        let prices = four(50000, 25000, 15000, 0);
-        let mut work = [7; 10];
-        Group::validate(bytes)?;
-        let found = longest_rows(&Group::new(bytes), &[0, 2, 1], persons, prices, &mut work);
-        check(found.d[0] == 0 && found.d[1] == 5000 && found.d[2] == 0)?;
-        check(found.before[0] == 255 && found.before[1] == 2 && found.before[2] == 255)?;
-        check(found.d[3] == 0 && found.before[3] == NOBODY && found.rounds == 1)?;
-        check(work[0] == 0 && work[8] == 0 && work[9] == 7)
+        agrees(bytes, &[0, 5000, 0], &[NOBODY, 2, NOBODY], 1)
     }
 
     // All worths are 10, so every way is nothing, and everybody stands alone.
@@ -291,15 +291,7 @@ mod tests {
     fn equal_worths() -> Result<(), Fail> {
         let bytes =
             b"\x03\0\0\0\0\x0a\0\0\0\x0a\0\0\0\x0a\0\0\0\x0a\0\0\0\x0a\0\0\0\x0a\0\0\0\x0a\0\0\0\x0a\0\0\0\x0a\0\0\0";
-        let persons = four(10, 10, 10, 0);
-        let prices = four(0, 0, 0, 0);
-        let mut work = [7; 10];
-        Group::validate(bytes)?;
-        let found = longest_rows(&Group::new(bytes), &[2, 0, 1], persons, prices, &mut work);
-        check(found.d[0] == 0 && found.d[1] == 0 && found.d[2] == 0)?;
-        check(found.before[0] == 255 && found.before[1] == 255 && found.before[2] == 255)?;
-        check(found.d[3] == 0 && found.before[3] == NOBODY && found.rounds == 0)?;
-        check(work[0] == 0 && work[8] == 0 && work[9] == 7)
+        agrees(bytes, &[0, 0, 0], &[NOBODY, NOBODY, NOBODY], 0)
     }
 
     // The longest row holds everybody, and each round lengthens one more: 10 0 0 0 / 11 11 0 0 / 0 12 12 0 / 0 0 13 13.
@@ -307,26 +299,7 @@ mod tests {
     fn whole_row() -> Result<(), Fail> {
         let bytes =
             b"\x04\0\0\0\0\x0a\0\0\0\0\0\0\0\0\0\0\0\0\0\0\0\x0b\0\0\0\x0b\0\0\0\0\0\0\0\0\0\0\0\0\0\0\0\x0c\0\0\0\x0c\0\0\0\0\0\0\0\0\0\0\0\0\0\0\0\x0d\0\0\0\x0d\0\0\0";
-        let persons = four(5, 6, 7, 8);
-        let prices = four(5, 5, 5, 5);
-        let mut work = [7; 17];
-        Group::validate(bytes)?;
-        let found = longest_rows(
-            &Group::new(bytes),
-            &[0, 1, 2, 3],
-            persons,
-            prices,
-            &mut work,
-        );
-        check(found.d[0] == 0 && found.d[1] == 1 && found.d[2] == 2 && found.d[3] == 3)?;
-        check(
-            found.before[0] == 255
-                && found.before[1] == 0
-                && found.before[2] == 1
-                && found.before[3] == 2,
-        )?;
-        check(found.d[4] == 0 && found.before[4] == NOBODY && found.rounds == 3)?;
-        check(work[0] == 0 && work[15] == 0 && work[16] == 7)
+        agrees(bytes, &[0, 1, 2, 3], &[NOBODY, 0, 1, 2], 3)
     }
 
     // Two see 10 in every room and two see 12: every row around has the length nothing, and going back still ends.
@@ -334,25 +307,6 @@ mod tests {
     fn circles() -> Result<(), Fail> {
         let bytes =
             b"\x04\0\0\0\0\x0a\0\0\0\x0a\0\0\0\x0a\0\0\0\x0a\0\0\0\x0a\0\0\0\x0a\0\0\0\x0a\0\0\0\x0a\0\0\0\x0c\0\0\0\x0c\0\0\0\x0c\0\0\0\x0c\0\0\0\x0c\0\0\0\x0c\0\0\0\x0c\0\0\0\x0c\0\0\0";
-        let persons = four(10, 10, 12, 12);
-        let prices = four(0, 0, 0, 0);
-        let mut work = [7; 17];
-        Group::validate(bytes)?;
-        let found = longest_rows(
-            &Group::new(bytes),
-            &[0, 1, 2, 3],
-            persons,
-            prices,
-            &mut work,
-        );
-        check(found.d[0] == 0 && found.d[1] == 0 && found.d[2] == 2 && found.d[3] == 2)?;
-        check(
-            found.before[0] == 255
-                && found.before[1] == 255
-                && found.before[2] == 0
-                && found.before[3] == 0,
-        )?;
-        check(found.d[4] == 0 && found.before[4] == NOBODY && found.rounds == 2)?;
-        check(work[0] == 0 && work[15] == 0 && work[16] == 7)
+        agrees(bytes, &[0, 0, 2, 2], &[NOBODY, NOBODY, 0, 0], 2)
     }
 }

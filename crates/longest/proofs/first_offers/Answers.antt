@@ -2,7 +2,8 @@ use borrow.Author.Needs.{needs}
 use native.Mathlib.Omega.{arith}
 use native.Mathlib.Numerals.{add-one}
 use mathlib.Core.Path.{_≡_, refl, ap, _∙_}
-use Rattle.longest.specs.Run.{at, through, first-offers}
+use Rattle.assignment.specs.Search.{at}
+use Rattle.longest.specs.Run.{through, first-offers}
 use Rattle.longest.proofs.Passing.{offers-same}
 use Rattle.longest.proofs.first_offers.Needs as need
 

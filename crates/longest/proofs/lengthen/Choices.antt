@@ -1,7 +1,8 @@
 use mathlib.Core.Path.{_≡_}
 use Prim.Native.Nat.{ℕ, _-_, _≤_, _<_}
 use Rattle.rooms.specs.Format.{most-worth}
-use Rattle.longest.specs.Run.{at, in-table, offers, state, nearest, run}
+use Rattle.assignment.specs.Search.{at}
+use Rattle.longest.specs.Run.{in-table, offers, state, nearest, run}
 use Rattle.longest.proofs.lengthen.Given as given
 
 abbrev pub Inv-longer : given.InvT-longer

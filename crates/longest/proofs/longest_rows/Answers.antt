@@ -19,14 +19,14 @@ find-found-requires c κs =
     let e = c .work-len-needed .ensures ∙ ap work-len (c .count-n .ensures .people) in
     record {
       group = (c .count-n .ensures .people, (omega (arith, a .some), omega (arith, a .few)));
-      numbered = c .pre .numbered;
+      solved = c .pre .solved;
       size = length-take-le (c .work-len-needed .result - 0) (c .args .work .now) (omega (arith, e, c .pre .enough)) ∙ omega (arith, c .work-len-needed .ensures);
     }
 
 pub returns : need.returns
 returns c =
     let a = c .count-n .ensures .allowed in
-    let q = c .pre .numbered in
+    let q = c .pre .solved in
     let e : c .work-len-needed .result ≡ work-len (house-of (c .args .group .now .bytes .now) .n) =
     c .work-len-needed .ensures ∙ ap work-len (c .count-n .ensures .people) in
     let fits : house-of (c .args .group .now .bytes .now) .n ≤ length (c .args .persons) = search (needs, a .few) in

@@ -4,7 +4,8 @@ use mathlib.Core.Path.{_≡_, ap, _∙_}
 use lib.ListN.{take, replicate}
 use Rattle.std.proofs.shelf.Lists.{getD-take}
 use Rattle.rooms.specs.Before.{nobody}
-use Rattle.longest.specs.Run.{at, in-table, run}
+use Rattle.assignment.specs.Search.{at}
+use Rattle.longest.specs.Run.{in-table, run}
 use Rattle.longest.proofs.Rounds.{start-is}
 use Rattle.longest.proofs.search_rows.Needs as need
 

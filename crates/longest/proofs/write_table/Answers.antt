@@ -13,14 +13,14 @@ pub write-slacks-requires : need.write-slacks-requires
 write-slacks-requires c κs =
     let i = c .loop-i .i in
     let n = c .args .n in
-    let num = c .pre .numbered in
+    let q = c .pre .solved in
     let g = c .pre .group .0 in
-    let h = num .certified .housed in
+    let h = q .certified .housed in
     let e = line-length (i * n) n (c .loop-i .table) (omega (arith, line-end i n (length (c .loop-i .table)) (c .loop-i-test .taken) (omega arith))) in
     rw e (record {
-      sizes = (c .pre .group .1, (omega (arith, h .all), num .persons i (omega arith)));
+      sizes = (c .pre .group .1, (omega (arith, h .all), q .persons-low i (omega arith)));
       within = λ k l. omega (arith, h .each k (omega arith));
-      covered = (λ r l. omega (arith, c .row-mine .ensures .each r, covers _ _ _ _ (num .certified) i r (omega arith) (omega arith)), λ r l. num .prices r (omega arith));
+      covered = (λ r l. omega (arith, c .row-mine .ensures .each r, covers _ _ _ _ (q .certified) i r (omega arith) (omega arith)), λ r l. q .prices-low r (omega arith));
     })
 
 pub loop-i-again : need.loop-i-again

@@ -1,10 +1,31 @@
-// Reads a group, and tells who has which room and what they pay.
-use rooms::Group;
+// Reads a group, and tells who has which room and what they pay; writes the sheet that shows it.
+use rooms::group::MOST_PEOPLE;
 use rooms::refusal::RefusalDisplay;
+use sheet::report::JointLineDisplay;
+use sheet::report::LeastLineDisplay;
+use sheet::report::PersonLineDisplay;
+use sheet::report::JointLine;
+use sheet::report::LeastLine;
+use sheet::report::person_line;
+use sheet::share::Shared;
+use sheet::share::share;
 use std::env;
 use std::fs;
 use std::io;
 use std::io::Read;
+
+// What the largest group wants of each slice.
+const RENTS: usize = 2 * MOST_PEOPLE;
+const WORK: usize = MOST_PEOPLE * MOST_PEOPLE + 7 * MOST_PEOPLE;
+const SHEET: usize = 42 * MOST_PEOPLE;
+
+fn help(rt: &LibcRuntime) -> io::Result<()> {
+    println!(rt, "usage: share [GROUP [SHEET]]")?;
+    println!(rt, "Reads a group's bytes from the file GROUP, or from standard input where none or - is given, and tells")?;
+    println!(rt, "who has which room and what they pay: the joint worth, a line for each person, and n times what the one")?;
+    println!(rt, "who has least gains. Writes the sheet that shows it to the file SHEET. A group that is not taken prints")?;
+    println!(rt, "'refused NUMBER at PLACE', writes nothing, and ends with status 1.")
+}
 
 // The bytes of the named file, or of the standard input.
 fn read_group(rt: &LibcRuntime, path: &str) -> io::Result<Vec<u8>> {
@@ -16,27 +37,34 @@ fn read_group(rt: &LibcRuntime, path: &str) -> io::Result<Vec<u8>> {
     fs::read(rt, path)
 }
 
-fn help(rt: &LibcRuntime) -> io::Result<()> {
-    println!(rt, "usage: share [GROUP [SHEET]]")?;
-    println!(
-        rt,
-        "Reads a group's bytes from the file GROUP, or from standard input where none or - is given,"
-    )?;
-    println!(
-        rt,
-        "and tells how many people and which rent it has. Bytes that are not a group are"
-    )?;
-    println!(rt, "refused with a number and a place, and status 1.")
+// Writes a file whole or not at all: beside its place first, and then it takes the name.
+fn write_whole(rt: &LibcRuntime, path: &str, bytes: &[u8]) -> io::Result<()> {
+    let beside = format!(rt.alloc(), "{path}.part")?;
+    match fs::write(rt, beside.as_str(), bytes) {
+        Ok(()) => fs::rename(rt, beside.as_str(), path),
+        Err(e) => {
+            let _ = fs::remove_file(rt, beside.as_str());
+            Err(e)
+        }
+    }
 }
 
-// Whether the bytes were taken.
-fn tell(rt: &LibcRuntime, bytes: &[u8]) -> io::Result<bool> {
-    match Group::validate(bytes) {
-        Ok(()) => {
-            let group = Group::new(bytes);
-            let people = group.count();
-            let rent = group.rent();
-            println!(rt, "people {people} rent {rent}")?;
+// Tells the share of a group, and writes its sheet where a file is named. Whether the group was taken.
+fn answer(rt: &LibcRuntime, group: &[u8], sheet_path: &str) -> io::Result<bool> {
+    let mut rooms = [0; MOST_PEOPLE];
+    let mut rents = [0; RENTS];
+    let mut work = [0; WORK];
+    let mut sheet = [0; SHEET];
+    match share(group, &mut rooms, &mut rents, &mut work, &mut sheet) {
+        Ok(shared) => {
+            let end = sheet_len(shared.people);
+            if sheet_path != "" && end <= SHEET {
+                if let Err(e) = write_whole(rt, sheet_path, &sheet[0..end]) {
+                    eprintln!(rt, "share: cannot write {sheet_path}: {e}")?;
+                    return Ok(false);
+                }
+            }
+            tell(rt, &shared, &rooms, &rents)?;
             Ok(true)
         }
         Err(e) => {
@@ -46,22 +74,42 @@ fn tell(rt: &LibcRuntime, bytes: &[u8]) -> io::Result<bool> {
     }
 }
 
+// The lines of a share.
+fn tell(rt: &LibcRuntime, shared: &Shared, rooms: &[u32], rents: &[u64]) -> io::Result<()> {
+    let n = shared.people;
+    println!(rt, "{}", JointLine(shared.joint))?;
+    for i in 0..n {
+        if let Some(line) = person_line(rooms, rents, n, i) {
+            println!(rt, "{line}")?;
+        }
+    }
+    println!(rt, "{}", LeastLine { least: shared.least, people: n })
+}
+
 fn run(rt: &LibcRuntime) -> io::Result<bool> {
     let mut args = env::args(rt)?;
     let _ = args.next();
-    let Some(first) = args.next() else {
-        let bytes = read_group(rt, "-")?;
-        return tell(rt, bytes.as_slice());
+    let (first, second, third) = (args.next(), args.next(), args.next());
+    if third.is_some() {
+        eprintln!(rt, "usage: share [GROUP [SHEET]]")?;
+        return Ok(false);
+    }
+    let group_path = match &first {
+        Some(path) => path.as_str(),
+        None => "-",
     };
-    if first.as_str() == "--help" {
+    if group_path == "--help" {
         help(rt)?;
         return Ok(true);
     }
-    match read_group(rt, first.as_str()) {
-        Ok(bytes) => tell(rt, bytes.as_slice()),
+    let sheet_path = match &second {
+        Some(path) => path.as_str(),
+        None => "",
+    };
+    match read_group(rt, group_path) {
+        Ok(group) => answer(rt, group.as_slice(), sheet_path),
         Err(e) => {
-            let path = first.as_str();
-            eprintln!(rt, "share: cannot read {path}: {e}")?;
+            eprintln!(rt, "share: cannot read {group_path}: {e}")?;
             Ok(false)
         }
     }

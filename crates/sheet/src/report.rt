@@ -1,7 +1,10 @@
 // The lines that are printed of a share; each says by `shown` which bytes it is.
+ghost use mathlib.Core.Path.{_≡_};
 ghost use Rattle.std.specs.declared.option.Option.the-variants.{Some};
-ghost use Rattle.sheet.specs.Report.{joint-text, person-text, least-text};
+ghost use Rattle.sheet.specs.Report.{joint-text, person-text, least-text, line-of};
+use rooms::group::MOST_PEOPLE;
 use std::fmt;
+use whole::signed_of;
 
 // The joint worth.
 #[derive(Clone, Copy)]
@@ -50,4 +53,23 @@ pub impl fmt::Display for LeastLine as LeastLineDisplay {
         let people = self.people;
         write!(f, "least {least} of {people}")
     }
+}
+
+// The line of person i of n, from what `share` has left in rooms and rents; none where these are too short for it.
+pub fn person_line(rooms: &[u32], rents: &[u64], n: usize, i: usize) -> Option<PersonLine>
+    ensures { λ r. ⌜ r ≡ line-of (now (rooms .entry)) (now (rents .entry)) n i ⌝ }
+{
+    if n > MOST_PEOPLE || i >= rooms.len() {
+        return None;
+    }
+    let room = rooms[i];
+    let at = n + room as usize;
+    if at >= rents.len() {
+        return None;
+    }
+    Some(PersonLine {
+        person: i,
+        room,
+        pays: signed_of(rents[at]),
+    })
 }

@@ -15,6 +15,9 @@ ghost use Rattle.longest.specs.Promise.{work-len, Found, Search-ends, One-long
 use rooms::Group;
 use rooms::group::MOST_PEOPLE;
 
+#[cfg(test)]
+mod tests;
+
 // Stands for nobody before a person.
 pub const NOBODY: u8 = 255;
 
@@ -251,62 +254,5 @@ fn find(
         d: lengths(n, persons, left),
         before,
         rounds,
-    }
-}
-
-#[cfg(test)]
-mod tests {
-    use super::*;
-    use assignment::assign;
-    use rooms::refusal::RefusalDebug;
-    use std::test::*;
-
-    // What is found of the best sharing of a group, and that work is clean after.
-    fn agrees(bytes: &[u8], d: &[u64], before: &[u8], rounds: usize) -> Result<(), Fail> {
-        Group::validate(bytes)?;
-        let group = Group::new(bytes);
-        let mut rooms = [0; MOST_PEOPLE];
-        let mut work = [7; 744];
-        let best = assign(&group, &mut rooms, &mut work);
-        let found = longest_rows(&group, &rooms, best.persons, best.rooms, &mut work);
-        check(d.len() < MOST_PEOPLE && before.len() == d.len())?;
-        for i in 0..d.len() {
-            check(found.d[i] == d[i])?;
-            check(found.before[i] == before[i])?;
-        }
-        check(found.d[d.len()] == 0 && found.before[d.len()] == NOBODY)?;
-        check(found.rounds == rounds && work[0] == 0)
-    }
-
-    // The house of three that was worked by hand: person 1 sees 5000 more in somebody's room.
-    #[test]
-    fn worked_house() -> Result<(), Fail> {
-        let bytes =
-            b"\x03\x90\x5f\x01\0\x60\xea\0\0\x30\x75\0\0\x20\x4e\0\0\x50\xc3\0\0\x40\x9c\0\0\x30\x75\0\0\xd8\xd6\0\0\xb8\x88\0\0\xa8\x61\0\0";
-        agrees(bytes, &[0, 5000, 0], &[NOBODY, 2, NOBODY], 1)
-    }
-
-    // All worths are 10, so every way is nothing, and everybody stands alone.
-    #[test]
-    fn equal_worths() -> Result<(), Fail> {
-        let bytes =
-            b"\x03\0\0\0\0\x0a\0\0\0\x0a\0\0\0\x0a\0\0\0\x0a\0\0\0\x0a\0\0\0\x0a\0\0\0\x0a\0\0\0\x0a\0\0\0\x0a\0\0\0";
-        agrees(bytes, &[0, 0, 0], &[NOBODY, NOBODY, NOBODY], 0)
-    }
-
-    // The longest row holds everybody, and each round lengthens one more: 10 0 0 0 / 11 11 0 0 / 0 12 12 0 / 0 0 13 13.
-    #[test]
-    fn whole_row() -> Result<(), Fail> {
-        let bytes =
-            b"\x04\0\0\0\0\x0a\0\0\0\0\0\0\0\0\0\0\0\0\0\0\0\x0b\0\0\0\x0b\0\0\0\0\0\0\0\0\0\0\0\0\0\0\0\x0c\0\0\0\x0c\0\0\0\0\0\0\0\0\0\0\0\0\0\0\0\x0d\0\0\0\x0d\0\0\0";
-        agrees(bytes, &[0, 1, 2, 3], &[NOBODY, 0, 1, 2], 3)
-    }
-
-    // Two see 10 in every room and two see 12: every row around has the length nothing, and going back still ends.
-    #[test]
-    fn circles() -> Result<(), Fail> {
-        let bytes =
-            b"\x04\0\0\0\0\x0a\0\0\0\x0a\0\0\0\x0a\0\0\0\x0a\0\0\0\x0a\0\0\0\x0a\0\0\0\x0a\0\0\0\x0a\0\0\0\x0c\0\0\0\x0c\0\0\0\x0c\0\0\0\x0c\0\0\0\x0c\0\0\0\x0c\0\0\0\x0c\0\0\0\x0c\0\0\0";
-        agrees(bytes, &[0, 0, 2, 2], &[NOBODY, NOBODY, 0, 0], 2)
     }
 }

@@ -2,7 +2,7 @@
 ghost use mathlib.Core.Path.{_≡_};
 ghost use mathlib.Core.List.{_++_};
 ghost use Prim.Native.Nat.{ℕ, _+_, _*_, _<_, _≤_};
-ghost use lib.ListN.{drop, getD, length};
+ghost use lib.ListN.{drop, length};
 ghost use lib.Seq.{paste};
 ghost use Rattle.std.specs.Iters.{counting};
 ghost use Rattle.std.specs.Joined.{joined};
@@ -136,20 +136,10 @@ mod tests {
             [2; MOST_PEOPLE],
             &mut sheet,
         );
-        check_eq(
-            [
-                byte_column(&sheet, 0, 10, 1)[0],
-                byte_column(&sheet, 1, 10, 1)[0],
-            ],
-            [9, 3],
-        )?;
-        check_eq(
-            [
-                signed_column(&sheet, 2, 10, 1)[0],
-                signed_column(&sheet, 10, 16, 1)[0],
-            ],
-            [258, -4],
-        )?;
+        check_eq(byte_column(&sheet, 0, 10, 1)[0], 9)?;
+        check_eq(byte_column(&sheet, 1, 10, 1)[0], 3)?;
+        check_eq(signed_column(&sheet, 2, 10, 1)[0], 258)?;
+        check_eq(signed_column(&sheet, 10, 16, 1)[0], -4)?;
         check_eq(signed_column(&sheet, 18, 16, 1)[0], -0x8000_0000_0000_0000)?;
         let numbers = signed_column(&sheet, 26, 8, 2);
         check_eq([numbers[0], numbers[1], numbers[2]], [1, 2, 0])

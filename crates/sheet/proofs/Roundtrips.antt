@@ -13,7 +13,7 @@ use Rattle.std.specs.Joined.{joined}
 use Rattle.std.proofs.shelf.Counted.{getD-map-counting}
 use Rattle.std.proofs.shelf.Lists.{drop-drop, drop-more, length-drop, take-all, take-append-drop}
 use Rattle.std.proofs.shelf.Signed.{ints}
-use Rattle.rooms.specs.Before.{prior}
+use Rattle.rooms.specs.Before.{nobody, prior}
 use Rattle.rooms.specs.Bytes.{Bytes, low-bytes}
 use Rattle.rooms.specs.House.{rent-of, room-of}
 use Rattle.rooms.specs.Rows.{number}
@@ -21,7 +21,7 @@ use Rattle.whole.specs.Bits.{Signed-64}
 use Rattle.whole.specs.Bytes.{bytes-of, eight-at, number-at, put}
 use Rattle.whole.proofs.Eight.{below, eight, signed-back}
 use Rattle.sheet.specs.Format.{Sheet, byte-column, column, person-bytes, room-bytes, sheet-bytes, sheet-length, sheet-of, signed-at, signed-bytes}
-use Rattle.sheet.specs.Roundtrip.{Agree, Fits, Reads-back, Writes-back}
+use Rattle.sheet.specs.Roundtrip.{Agree, Reads-back, Sheet-fits, Writes-back}
 use Rattle.sheet.proofs.Pieces.{Stands, pieces-cut, pieces-push, pieces-stand, stands-after, stands-before, stands-byte, stands-number}
 use Rattle.sheet.proofs.Sheets.{numbers-part, numbers-part-long, person-long, persons-part, persons-part-long, room-long, rooms-part, rooms-part-long, signed-long}
 
@@ -41,17 +41,18 @@ read-signed : (b : List ℕ) (at : ℕ) (p : List ℕ) (j i : ℕ) (x : ℤ) →
     Signed-64 x → signed-at b i ≡ x
 read-signed b at p j i x h l e q f = ap (toZ w64) (stands-number b at p j i h l e ∙ q) ∙ signed-read x f
 
-second : (x y : ℤ) → number-at (signed-bytes x ++ signed-bytes y) 8 ≡ number-at (signed-bytes y) 0
-unfolding number-at bytes-of low-bytes
-second x y = refl
-
-first-of : (x y : ℤ) → number-at (signed-bytes x ++ signed-bytes y) 0 ≡ number-at (signed-bytes x) 0
-unfolding number-at bytes-of low-bytes
-first-of x y = refl
-
-third : (r b : ℕ) (x : ℤ) → number-at (r ∷ (b ∷ signed-bytes x)) 2 ≡ number-at (signed-bytes x) 0
+-- The numbers within a person's and a room's bytes.
+person-number : (r b : ℕ) (x : ℤ) → number-at (r ∷ (b ∷ signed-bytes x)) 2 ≡ number-at (signed-bytes x) 0
 unfolding number-at
-third r b x = refl
+person-number r b x = refl
+
+rent-number : (x y : ℤ) → number-at (signed-bytes x ++ signed-bytes y) 0 ≡ number-at (signed-bytes x) 0
+unfolding number-at bytes-of low-bytes
+rent-number x y = refl
+
+cents-number : (x y : ℤ) → number-at (signed-bytes x ++ signed-bytes y) 8 ≡ number-at (signed-bytes y) 0
+unfolding number-at bytes-of low-bytes
+cents-number x y = refl
 
 module _ (n : ℕ) (s : Sheet) where
   abbrev tail-of : List ℕ
@@ -111,40 +112,48 @@ pieces-bytes f zero h = λ k. omega arith
 pieces-bytes f (suc n) h =
     subst Bytes (sym (pieces-push f n)) (bytes-append (joined f (counting 0 n)) (f n) (pieces-bytes f n (λ i l. h i (omega arith))) (h n (omega arith)))
 
+signed-small : (x : ℤ) → Bytes (signed-bytes x)
+signed-small x = eight (ofZ w64 x) .1
+
 person-small : (r b x : ℕ) → r < 256 → b < 256 → Bytes (r ∷ (b ∷ bytes-of x))
 person-small r b x h g zero = h
 person-small r b x h g (suc zero) = g
 person-small r b x h g (suc (suc k)) = eight x .1 k
 
-sheet-small : (n : ℕ) (s : Sheet) → Fits n s → Bytes (sheet-bytes n s)
+sheet-small : (n : ℕ) (s : Sheet) → Sheet-fits n s → Bytes (sheet-bytes n s)
 unfolding sheet-bytes
 sheet-small n s f =
     let c = s .claim in
-    let number-small : (xs : List ℤ) → Bytes (numbers-part n xs) = λ xs. pieces-bytes (λ i. signed-bytes (number xs i)) n (λ i l. eight (ofZ w64 (number xs i)) .1) in
+    let number-small : (xs : List ℤ) → Bytes (numbers-part n xs) =
+    λ xs. pieces-bytes (λ i. signed-bytes (number xs i)) n (λ i l. signed-small (number xs i)) in
     bytes-append (persons-part n s) (rooms-part n s ++ tail-of n s)
     (pieces-bytes (person-bytes c) n (λ i l. person-small (room-of (c .room) i) (prior (c .before) i) (ofZ w64 (number (c .d) i)) (f .room i l) (f .before i l)))
     (bytes-append (rooms-part n s) (tail-of n s)
-    (pieces-bytes (room-bytes s) n (λ r l. bytes-append (signed-bytes (rent-of (c .rents) r)) (signed-bytes (number (s .cents) r)) (eight (ofZ w64 (rent-of (c .rents) r)) .1) (eight (ofZ w64 (number (s .cents) r)) .1)))
+    (pieces-bytes (room-bytes s) n
+    (λ r l. bytes-append (signed-bytes (rent-of (c .rents) r)) (signed-bytes (number (s .cents) r)) (signed-small (rent-of (c .rents) r)) (signed-small (number (s .cents) r))))
     (bytes-append (numbers-part n (c .persons)) (numbers-part n (c .rooms)) (number-small (c .persons)) (number-small (c .rooms))))
 
--- Every piece stands at its place, and what is read there is what the piece was made of.
-read-agrees : (n : ℕ) (s : Sheet) → Fits n s → Agree n (sheet-of n (sheet-bytes n s)) s
+-- Every piece stands at its place: the pieces before it are as many as are counted, and each is as long. So what is read there is what the piece was
+-- made of: a byte is itself, and the eight bytes of a number that fits are that number.
+read-agrees : (n : ℕ) (s : Sheet) → Sheet-fits n s → Agree n (sheet-of n (sheet-bytes n s)) s
 unfolding sheet-of
 read-agrees n s f =
     let b = sheet-bytes n s in
     let c = s .claim in
     record {
-      room = λ i l. byte-entry b 0 10 n i 0 l ∙ stands-byte b (10 * i) (person-bytes c i) 0 (0 + 10 * i) (person-stands n s i l) (let a = person-long c i in omega arith) (omega arith);
-      before = λ i l. byte-entry b 1 10 n i 255 l ∙ stands-byte b (10 * i) (person-bytes c i) 1 (1 + 10 * i) (person-stands n s i l) (let a = person-long c i in omega arith) (omega arith);
+      room = λ i l. byte-entry b 0 10 n i 0 l
+          ∙ stands-byte b (10 * i) (person-bytes c i) 0 (0 + 10 * i) (person-stands n s i l) (let a = person-long c i in omega arith) (omega arith);
+      before = λ i l. byte-entry b 1 10 n i nobody l
+          ∙ stands-byte b (10 * i) (person-bytes c i) 1 (1 + 10 * i) (person-stands n s i l) (let a = person-long c i in omega arith) (omega arith);
       d = λ i l. column-entry b 2 10 n i l
           ∙ read-signed b (10 * i) (person-bytes c i) 2 (2 + 10 * i) (number (c .d) i) (person-stands n s i l) (let a = person-long c i in omega arith) (omega arith)
-          (third (room-of (c .room) i) (prior (c .before) i) (number (c .d) i)) (f .d i l);
+          (person-number (room-of (c .room) i) (prior (c .before) i) (number (c .d) i)) (f .d i l);
       rents = λ r l. column-entry b (10 * n) 16 n r l
           ∙ read-signed b (10 * n + 16 * r) (room-bytes s r) 0 (10 * n + 16 * r) (rent-of (c .rents) r) (room-stands n s r l) (let a = room-long s r in omega arith) (omega arith)
-          (first-of (rent-of (c .rents) r) (number (s .cents) r)) (f .rents r l);
+          (rent-number (rent-of (c .rents) r) (number (s .cents) r)) (f .rents r l);
       cents = λ r l. column-entry b (10 * n + 8) 16 n r l
           ∙ read-signed b (10 * n + 16 * r) (room-bytes s r) 8 (10 * n + 8 + 16 * r) (number (s .cents) r) (room-stands n s r l) (let a = room-long s r in omega arith) (omega arith)
-          (second (rent-of (c .rents) r) (number (s .cents) r)) (f .cents r l);
+          (cents-number (rent-of (c .rents) r) (number (s .cents) r)) (f .cents r l);
       persons = λ i l. column-entry b (26 * n) 8 n i l
           ∙ read-signed b (26 * n + 8 * i) (signed-bytes (number (c .persons) i)) 0 (26 * n + 8 * i) (number (c .persons) i) (persons-stand n s i l)
           (let a = signed-long (number (c .persons) i) in omega arith) (omega arith) refl (f .persons i l);
@@ -196,7 +205,7 @@ module _ (n : ℕ) (b : List ℕ) (h : Bytes b) (e : length b ≡ sheet-length n
       each i l =
           let p : 1 + 10 * i ≡ 0 + 10 * i + 1 = omega arith in
           let q : 2 + 10 * i ≡ 0 + 10 * i + 2 = omega arith in
-          (λ j. byte-entry b 0 10 n i 0 l j ∷ ((byte-entry b 1 10 n i 255 l ∙ ap (λ (k : ℕ). getD b k 0) p) j
+          (λ j. byte-entry b 0 10 n i 0 l j ∷ ((byte-entry b 1 10 n i nobody l ∙ ap (λ (k : ℕ). getD b k 0) p) j
           ∷ (signed-again b 2 10 n i h (omega arith) l ∙ ap (eight-at b) q) j)) ∙ ten b (0 + 10 * i) (omega arith)
 
   rooms-again : rooms-part n said ≡ take (16 * n) (drop (10 * n) b)
@@ -210,7 +219,8 @@ module _ (n : ℕ) (b : List ℕ) (h : Bytes b) (e : length b ≡ sheet-length n
   numbers-again : (at : ℕ) → at + 8 * n ≤ length b → numbers-part n (column b at 8 n) ≡ take (8 * n) (drop at b)
   numbers-again at fits = pieces-cut (λ i. signed-bytes (number (column b at 8 n) i)) b at 8 n (λ i l. signed-again b at 8 n i h (omega arith) l)
 
-  -- Each part is the part that it was read from, and the four parts are all.
+  -- A byte that is read is itself, and the number of eight bytes has those eight bytes. So each piece is what stands at its place, each of the four
+  -- parts is what it was read from, and as long as the sheet is, the four parts are all of it.
   again : sheet-bytes n said ≡ b
   unfolding sheet-bytes sheet-of
   again =
@@ -220,11 +230,11 @@ module _ (n : ℕ) (b : List ℕ) (h : Bytes b) (e : length b ≡ sheet-length n
       ∙ ap (λ (t : List ℕ). take (10 * n) b ++ t) (onward b (10 * n) (16 * n) (26 * n) (omega arith))
       ∙ onward b 0 (10 * n) (10 * n) (omega arith)
 
-  said-fits : Fits n said
+  said-fits : Sheet-fits n said
   unfolding sheet-of
   said-fits = record {
     room = λ i l. rw (byte-entry b 0 10 n i 0 l) (h (0 + 10 * i));
-    before = λ i l. rw (byte-entry b 1 10 n i 255 l) (h (1 + 10 * i));
+    before = λ i l. rw (byte-entry b 1 10 n i nobody l) (h (1 + 10 * i));
     d = λ i l. entry-fits b 2 10 n i h l;
     rents = λ r l. entry-fits b (10 * n) 16 n r h l;
     cents = λ r l. entry-fits b (10 * n + 8) 16 n r h l;

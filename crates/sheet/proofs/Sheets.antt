@@ -15,7 +15,7 @@ use Rattle.std.proofs.shelf.Edits.{paste-all}
 use Rattle.std.proofs.shelf.Lists.{getD-drop, getD-take, length-append}
 use Rattle.std.proofs.shelf.Signed.{ofZ-toZ}
 use Rattle.rooms.specs.Before.{prior}
-use Rattle.rooms.specs.House.{rent-of}
+use Rattle.rooms.specs.House.{rent-of, room-of}
 use Rattle.rooms.specs.Rows.{number, signed}
 use Rattle.rents.specs.Shown.{Claim}
 use Rattle.whole.specs.Bytes.{bytes-of}
@@ -93,7 +93,7 @@ same-bytes n s t a =
     let u : numbers-part n (s .claim .persons) ≡ numbers-part n (t .claim .persons) =
     pieces-same (λ i. signed-bytes (number (s .claim .persons) i)) (λ i. signed-bytes (number (t .claim .persons) i)) n (λ i l j. signed-bytes (a .persons i l j)) in
     let v : numbers-part n (s .claim .rooms) ≡ numbers-part n (t .claim .rooms) =
-    pieces-same (λ i. signed-bytes (number (s .claim .rooms) i)) (λ i. signed-bytes (number (t .claim .rooms) i)) n (λ i l j. signed-bytes (a .rooms i l j)) in
+    pieces-same (λ r. signed-bytes (number (s .claim .rooms) r)) (λ r. signed-bytes (number (t .claim .rooms) r)) n (λ r l j. signed-bytes (a .rooms r l j)) in
     λ j. p j ++ (r j ++ (u j ++ v j))
 
 -- ---- what was handed over is on the sheet
@@ -157,3 +157,25 @@ module _ (n : ℕ) (rooms before d rents persons prices : List ℕ) where
       ∙ paste-after old 0 (34 * n) (p ++ q ++ u) v (34 * n) (8 * n) (42 * n) (sym pqu-long) (sym v-long) (omega arith) (omega arith) (omega arith)
       ∙ paste-all old 0 (p ++ q ++ u ++ v) (42 * n) (sym all-long)
       ∙ (λ j. (append-assoc (p ++ q) u v ∙ append-assoc p q (u ++ v)) j ++ drop (zero-add (42 * n) j) old)
+
+-- What is handed over says of the n what another sheet says; then the bytes are that sheet's.
+pub record Says (n : ℕ) (σ bs ds qs us vs : List ℕ) (t : Sheet) : Type 0 where
+  pub room : (i : ℕ) → i < n → room-of σ i ≡ room-of (t .claim .room) i
+  pub before : (i : ℕ) → i < n → prior bs i ≡ prior (t .claim .before) i
+  pub d : (i : ℕ) → i < n → pos (getD ds i 0) ≡ number (t .claim .d) i
+  pub rents : (r : ℕ) → r < n → toZ w64 (getD qs r 0) ≡ rent-of (t .claim .rents) r
+  pub cents : (r : ℕ) → r < n → toZ w64 (getD qs (n + r) 0) ≡ number (t .cents) r
+  pub persons : (i : ℕ) → i < n → pos (getD us i 0) ≡ number (t .claim .persons) i
+  pub rooms : (r : ℕ) → r < n → pos (getD vs r 0) ≡ number (t .claim .rooms) r
+
+pub handed-says : (n : ℕ) (rooms before d rents persons prices : List ℕ) (t : Sheet) → Says n rooms before d rents persons prices t →
+    sheet-bytes n (handed n rooms before d rents persons prices) ≡ sheet-bytes n t
+handed-says n rooms before d rents persons prices t h = same-bytes n (handed n rooms before d rents persons prices) t (record {
+  room = λ i l. getD-take n rooms i 0 l ∙ h .room i l;
+  before = h .before;
+  d = λ i l. mapped pos d i 0 ∙ h .d i l;
+  rents = λ r l. mapped (toZ w64) (take n rents) r 0 ∙ ap (toZ w64) (getD-take n rents r 0 l) ∙ h .rents r l;
+  cents = λ r l. mapped (toZ w64) (take n (drop n rents)) r 0 ∙ ap (toZ w64) (getD-take n (drop n rents) r 0 l ∙ getD-drop n rents r 0) ∙ h .cents r l;
+  persons = λ i l. mapped pos persons i 0 ∙ h .persons i l;
+  rooms = λ r l. mapped pos prices r 0 ∙ h .rooms r l;
+})

@@ -21,7 +21,7 @@ pub record Agree (n : ℕ) (s t : Sheet) : Type 0 where
   pub rooms : (r : ℕ) → r < n → number (s .claim .rooms) r ≡ number (t .claim .rooms) r
 
 -- What a sheet says of them fits its bytes: rooms and persons before in one, the others in eight, signed.
-pub record Fits (n : ℕ) (s : Sheet) : Type 0 where
+pub record Sheet-fits (n : ℕ) (s : Sheet) : Type 0 where
   pub room : (i : ℕ) → i < n → room-of (s .claim .room) i < 256
   pub before : (i : ℕ) → i < n → prior (s .claim .before) i < 256
   pub d : (i : ℕ) → i < n → Signed-64 (number (s .claim .d) i)
@@ -39,8 +39,8 @@ Same-bytes = (n : ℕ) (s t : Sheet) → Agree n s t → sheet-bytes n s ≡ she
 
 -- What fits is written as bytes, and is read back.
 abbrev pub Reads-back : Type 0
-Reads-back = (n : ℕ) (s : Sheet) → Fits n s → Bytes (sheet-bytes n s) × Agree n (sheet-of n (sheet-bytes n s)) s
+Reads-back = (n : ℕ) (s : Sheet) → Sheet-fits n s → Bytes (sheet-bytes n s) × Agree n (sheet-of n (sheet-bytes n s)) s
 
 -- Bytes of that length are those of what they say, so that other bytes say something else; and what they say fits.
 abbrev pub Writes-back : Type 0
-Writes-back = (n : ℕ) (b : List ℕ) → Bytes b → length b ≡ sheet-length n → (sheet-bytes n (sheet-of n b) ≡ b) × Fits n (sheet-of n b)
+Writes-back = (n : ℕ) (b : List ℕ) → Bytes b → length b ≡ sheet-length n → (sheet-bytes n (sheet-of n b) ≡ b) × Sheet-fits n (sheet-of n b)

@@ -2,7 +2,7 @@
 ghost use mathlib.Core.Path.{_≡_};
 ghost use mathlib.Core.List.{_++_};
 ghost use Prim.Native.Nat.{ℕ, _+_, _*_, _<_, _≤_};
-ghost use lib.ListN.{drop, getD, length};
+ghost use lib.ListN.{drop, length};
 ghost use lib.Seq.{paste};
 ghost use Rattle.std.specs.Iters.{counting};
 ghost use Rattle.std.specs.Joined.{joined};
@@ -84,3 +84,64 @@ pub fn sheet_stands()
     ensures reads { λ _. ⌜ Reads-back ⌝ }
     ensures writes { λ _. ⌜ Writes-back ⌝ }
 {}
+
+#[cfg(test)]
+mod tests {
+    use super::super::columns::*;
+    use super::*;
+    use std::test::*;
+    use whole::bits_of;
+
+    // Worths 80 70 / 80 20 and rent 100: rooms 1 and 0, nobody before, twice the rents 110 and 90, cents 55 and 45, numbers
+    // 70 and 70 for the people, 10 and 0 for the rooms; then two bytes that lie past the sheet.
+    const WORKED: &[u8; 86] = b"\
+        \x01\xff\0\0\0\0\0\0\0\0\
+        \0\xff\0\0\0\0\0\0\0\0\
+        \x6e\0\0\0\0\0\0\0\x37\0\0\0\0\0\0\0\
+        \x5a\0\0\0\0\0\0\0\x2d\0\0\0\0\0\0\0\
+        \x46\0\0\0\0\0\0\0\x46\0\0\0\0\0\0\0\
+        \x0a\0\0\0\0\0\0\0\0\0\0\0\0\0\0\0\
+        \x07\x07";
+
+    #[test]
+    fn worked() -> Result<(), Fail> {
+        let mut prices = [0; MOST_PEOPLE];
+        prices[0] = 10;
+        let mut sheet = [7; 86];
+        write_sheet(
+            2,
+            &[1, 0],
+            [255; MOST_PEOPLE],
+            [0; MOST_PEOPLE],
+            &[110, 90, 55, 45],
+            [70; MOST_PEOPLE],
+            prices,
+            &mut sheet,
+        );
+        check_eq(sheet, *WORKED)
+    }
+
+    // Numbers below nothing, and columns read from what was written.
+    #[test]
+    fn below_nothing() -> Result<(), Fail> {
+        let mut sheet = [0; 42];
+        let rents = [bits_of(-4), bits_of(-0x8000_0000_0000_0000)];
+        write_sheet(
+            1,
+            &[9, 9],
+            [3; MOST_PEOPLE],
+            [258; MOST_PEOPLE],
+            &rents,
+            [1; MOST_PEOPLE],
+            [2; MOST_PEOPLE],
+            &mut sheet,
+        );
+        check_eq(byte_column(&sheet, 0, 10, 1)[0], 9)?;
+        check_eq(byte_column(&sheet, 1, 10, 1)[0], 3)?;
+        check_eq(signed_column(&sheet, 2, 10, 1)[0], 258)?;
+        check_eq(signed_column(&sheet, 10, 16, 1)[0], -4)?;
+        check_eq(signed_column(&sheet, 18, 16, 1)[0], -0x8000_0000_0000_0000)?;
+        let numbers = signed_column(&sheet, 26, 8, 2);
+        check_eq([numbers[0], numbers[1], numbers[2]], [1, 2, 0])
+    }
+}

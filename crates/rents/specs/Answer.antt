@@ -66,7 +66,7 @@ pub record Roundable (n rent : ℕ) (ps : List ℤ) : Type 0 where
   pub even : (q r : ℕ) → q < n → r < n → rest (rent-of ps q) n ≡ rest (rent-of ps r) n
   pub small : (r : ℕ) → r < n → Within most-due (rent-of ps r)
 
--- The rents made from longest rows can be: all leave the same remainder by n, that of what is spare turned below nothing.
+-- The rents made from longest rows can be: all leave the same remainder by n.
 abbrev pub Rents-roundable : Type 0
 Rents-roundable =
     (h : House) (room : List ℕ) (d ps : List ℤ) → Allowed h → Housed h room → Lengths h d most-worth → Rents h room d ps → Roundable (h .n) (h .rent) ps

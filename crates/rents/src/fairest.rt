@@ -96,23 +96,23 @@ fn left_over(group: &Group, n: usize, d: [u64; MOST_PEOPLE], joint: i64) -> i64
     difference(difference(joint, group.rent() as i64), all_lengths(n, d))
 }
 
-// What a person pays, n times: the worth of their room less the length of their row, less an even part of what is spare.
-fn due(worth: u32, length: u64, n: usize, spare: i64) -> i64
-    requires { ⌜ worth ≤ most-worth ⌝ ∗ ⌜ length ≤ most-worth ⌝ ∗ ⌜ n ≤ most-people ⌝ ∗ ⌜ Within (2 ^ 60) spare ⌝ }
-    ensures { λ r. ⌜ r ≡ (pos worth -ℤ pos length) *ℤ pos n -ℤ spare ⌝ }
+// What a person pays, n times: the worth of their room less the length of their longest row, less an even part of what is spare.
+fn due(worth: u32, row: u64, n: usize, spare: i64) -> i64
+    requires { ⌜ worth ≤ most-worth ⌝ ∗ ⌜ row ≤ most-worth ⌝ ∗ ⌜ n ≤ most-people ⌝ ∗ ⌜ Within (2 ^ 60) spare ⌝ }
+    ensures { λ r. ⌜ r ≡ (pos worth -ℤ pos row) *ℤ pos n -ℤ spare ⌝ }
 {
     difference(
-        product(difference(worth as i64, length as i64), n as u32),
+        product(difference(worth as i64, row as i64), n as u32),
         spare,
     )
 }
 
-// What a person gains, n times.
-fn gain(length: u64, n: usize, spare: i64) -> i64
-    requires { ⌜ length ≤ most-worth ⌝ ∗ ⌜ n ≤ most-people ⌝ ∗ ⌜ Within (2 ^ 60) spare ⌝ }
-    ensures { λ r. ⌜ r ≡ pos length *ℤ pos n +ℤ spare ⌝ }
+// What a person gains, n times: the length of their longest row, and an even part of what is spare.
+fn gain(row: u64, n: usize, spare: i64) -> i64
+    requires { ⌜ row ≤ most-worth ⌝ ∗ ⌜ n ≤ most-people ⌝ ∗ ⌜ Within (2 ^ 60) spare ⌝ }
+    ensures { λ r. ⌜ r ≡ pos row *ℤ pos n +ℤ spare ⌝ }
 {
-    sum(product(length as i64, n as u32), spare)
+    sum(product(row as i64, n as u32), spare)
 }
 
 // What each person pays, written at their room.

@@ -17,8 +17,8 @@ returns c =
     let s = c .pre .1 .1 .1 in
     let w = c .difference .ensures .within in
     let f : SFits w64 (c .difference .result) = omega (arith, ints) in
-    let e : c .difference .result ≡ pos (c .args .worth) -ℤ pos (c .args .length) = let v = c .difference .ensures .value in omega (arith, ints) in
-    let p : c .product .result ≡ (pos (c .args .worth) -ℤ pos (c .args .length)) *ℤ pos (c .args .n) =
+    let e : c .difference .result ≡ pos (c .args .worth) -ℤ pos (c .args .row) = let v = c .difference .ensures .value in omega (arith, ints) in
+    let p : c .product .result ≡ (pos (c .args .worth) -ℤ pos (c .args .row)) *ℤ pos (c .args .n) =
     (simp toZ-ofZ at (c .product .ensures .value)) ∙ ap (λ (x : ℤ). x *ℤ pos (c .args .n)) e in
     let b = c .product .ensures .within in
     let v = c .difference-2 .ensures .value in

@@ -16,8 +16,10 @@ use Rattle.rooms.specs.House.{House}
 use Rattle.rooms.specs.Rows.{signed}
 use Rattle.rooms.proofs.First.{some-false}
 use Rattle.rents.specs.Answer.{Measured}
-use Rattle.rents.specs.Shown.{Claim, shows}
-use Rattle.rents.proofs.Shown.{shown-fairest, shows-decides}
+use Rattle.rents.specs.Faults.{shows}
+use Rattle.rents.specs.Shown.{Claim}
+use Rattle.rents.proofs.Faults.{shows-decides}
+use Rattle.rents.proofs.Shown.{shown-fairest}
 
 low-by : (b : ℕ) (d : List ℕ) → some (λ i. ltb b (getD d i 0)) (length d) ≡ false → (i : ℕ) → getD d i 0 ≤ b
 low-by b d e i = elim (cases-lt i (length d)) [

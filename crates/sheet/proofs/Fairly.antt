@@ -35,7 +35,7 @@ use Rattle.whole.specs.Bounds.{Within}
 use Rattle.rents.proofs.Fair.{rents-exist}
 use Rattle.rents.proofs.Shown.{shown-fairest}
 use Rattle.sheet.specs.Format.{Sheet, byte-column, column, sheet-bytes, sheet-of}
-use Rattle.sheet.specs.Roundtrip.{Fits}
+use Rattle.sheet.specs.Roundtrip.{Sheet-fits}
 use Rattle.sheet.proofs.Roundtrips.{reads-back}
 use Rattle.sheet.specs.Share.{fair-cents, fair-rents, lengths-of, priors-of, sheet-for}
 
@@ -146,7 +146,7 @@ module _ (h : House) (a : Allowed h) where
   prior-small i l = let f = a .few in elim (rows .comes i l) [ inl p ↦ omega (arith, p .0) | inr p ↦ omega (arith, p .0) ]
 
   -- All numbers of the sheet fit their bytes.
-  pub fits : Fits (h .n) (sheet-for h)
+  pub fits : Sheet-fits (h .n) (sheet-for h)
   fits = record {
     room = λ i l. let f = a .few in omega (arith, housed .each i l);
     before = prior-small;

@@ -7,18 +7,16 @@ use native.Mathlib.Omega.{arith}
 use lib.Dec.{ltb}
 use lib.IntN.{ℤ, pos, _+ℤ_, _-ℤ_, _*ℤ_}
 use lib.Signed.{_≤ℤ_, _<ℤ_}
-use lib.ListN.{length}
-use Rattle.std.specs.Iters.{counting}
 use Rattle.std.proofs.shelf.Counted.{fill-by-all, getD-map-counting}
 use Rattle.std.proofs.shelf.Signed.{ints, by-ltZ}
 use Rattle.std.proofs.shelf.Tests.{cases-lt, cond-false, cond-true, le-ltb, lt-ltb}
-use Rattle.rooms.specs.House.{House, Settled, gain, own-gain, rent-of, room-of, sum, total, value}
+use Rattle.rooms.specs.House.{gain, rent-of, room-of, sum, total, value}
 use Rattle.rooms.proofs.Product.{times-add, times-le, times-same, times-sub}
 use Rattle.rooms.proofs.Sum.{sum-add, sum-const, sum-same, sum-times}
-use Rattle.whole.specs.Floor.{floor, rest}
+use Rattle.whole.specs.Floor.{rest}
 use Rattle.whole.proofs.Floors.{rests}
 use Rattle.rents.specs.Answer.{Roundable}
-use Rattle.cents.specs.Cents.{Cents-rounded, Lowest-more, Near, Near-content, Only-cents, Rounded, Within-a-cent, cents-of, extra, floor-at, missing-cents}
+use Rattle.cents.specs.Cents.{Cents-rounded, Lowest-more, Near, Near-content, Only-cents, cents-of, extra, floor-at, missing-cents}
 
 pub extra-one : (m r : ℕ) → r < m → extra (pos m) r ≡ pos 1
 extra-one m r l = cond-true (ltb r m) (pos 1) (pos 0) (lt-ltb r m l)

@@ -2,7 +2,7 @@
 // numbers, so that they add up to the whole rent.
 ghost use mathlib.Core.Path.{_≡_};
 ghost use mathlib.Core.List.{_++_};
-ghost use Prim.Native.Nat.{ℕ, _+_, _^_, _<_, _≤_};
+ghost use Prim.Native.Nat.{_+_, _^_, _<_, _≤_};
 ghost use lib.IntN.{_+ℤ_};
 ghost use lib.ListN.{length, getD, take, drop};
 ghost use mir.Syntax.{w64};

@@ -32,5 +32,13 @@ fn below_nothing() -> Result<(), Fail> {
     write_cents(2, 0, &mut free);
     check_eq(free, [0xffff_ffff_ffff_fffb, 5, 0xffff_ffff_ffff_fffe, 2]).note(
         "−2 and 2, of a rent of 0",
+    )?;
+    // −19 over 24 for the closet of a house of 24, and 29 for each other room.
+    let mut many = [29; 48];
+    many[0] = 0xffff_ffff_ffff_ffed;
+    write_cents(24, 27, &mut many);
+    check_eq(
+        [many[1], many[24], many[25], many[28], many[29], many[47]],
+        [29, 0, 2, 2, 1, 1],
     )
 }

@@ -9,7 +9,7 @@ use lib.ListN.{getD}
 use Rattle.std.proofs.shelf.Bits.{mul-le}
 use Rattle.std.proofs.shelf.Signed.{ints}
 use Rattle.rooms.specs.House.{House, Housed, joint, own-gain, rent-of, room-of, sum, value, worth-at}
-use Rattle.rooms.specs.Format.{Allowed, most-people, most-rent, most-worth}
+use Rattle.rooms.specs.Format.{Allowed, most-people, most-worth}
 use Rattle.rooms.specs.Rows.{number, signed}
 use Rattle.rooms.proofs.Sharing.{holder}
 use Rattle.whole.specs.Bounds.{Within}
@@ -17,7 +17,7 @@ use Rattle.whole.specs.Floor.{rest}
 use Rattle.whole.proofs.Bounds.{product-within, total-within, wider}
 use Rattle.whole.proofs.Floors.{moved}
 use Rattle.rents.specs.Rents.{Rents, due, spare}
-use Rattle.rents.specs.Answer.{Lengths, Rents-roundable, Rents-small, Roundable, Small, due-bound, most-due}
+use Rattle.rents.specs.Answer.{Lengths, Rents-roundable, Rents-small, due-bound, most-due}
 use Rattle.rents.proofs.Fair.{rents-add-up}
 
 pub value-within : (h : House) (b : ℕ) → ((i r : ℕ) → worth-at h i r ≤ b) → (i r : ℕ) → Within b (value h i r)

@@ -1,9 +1,9 @@
 use mathlib.Core.Path.{_≡_, sym, ap, subst, _∙_}
 use mathlib.Core.List.{_++_}
 use native.Mathlib.Omega.{arith}
-use Prim.Native.Nat.{_+_, _≤_, _<_}
+use Prim.Native.Nat.{_+_}
 use lib.IntN.{ℤ, _+ℤ_}
-use lib.ListN.{drop, getD, length, set, take}
+use lib.ListN.{drop, getD, set, take}
 use lib.Seq.{paste}
 use mir.Syntax.{w64}
 use mir.Val.{ofZ, toZ}

@@ -1,14 +1,11 @@
 use mathlib.Core.Path.{_≡_, ap, subst, sym, _∙_}
-use mathlib.Core.List.{List, map, _++_}
+use mathlib.Core.List.{List}
 use native.Mathlib.Omega.{arith}
-use Prim.Native.Nat.{ℕ, _-_}
+use Prim.Native.Nat.{ℕ}
 use lib.IntN.{ℤ, pos, _+ℤ_, _*ℤ_}
-use lib.ListN.{getD, replicate}
 use mir.Syntax.{w64}
 use mir.Val.{SFits, ofZ, toZ}
-use Rattle.std.specs.Iters.{counting}
-use Rattle.std.proofs.shelf.Signed.{ints, toZ-ofZ}
-use Rattle.rooms.specs.Format.{most-people}
+use Rattle.std.proofs.shelf.Signed.{toZ-ofZ}
 use Rattle.rooms.specs.Rows.{number, signed}
 use Rattle.rents.proofs.Sizes.{number-signed}
 use Rattle.rents.proofs.Writing.{Filled, filled-all, filled-more, filled-none}

@@ -2,19 +2,16 @@ use mathlib.Core.Path.{_≡_, sym, ap, subst, _∙_}
 use mathlib.Core.List.{_++_}
 use denote.Ref.{now}
 use native.Mathlib.Omega.{arith}
-use Prim.Native.Nat.{_^_}
 use lib.IntN.{ℤ}
 use lib.ListN.{drop}
 use mir.Syntax.{w64}
-use mir.Val.{SFits, ofZ, toZ}
+use mir.Val.{ofZ, toZ}
 use Rattle.std.proofs.shelf.Signed.{ints, toZ-ofZ}
-use Rattle.rooms.specs.House.{sum}
 use Rattle.rooms.specs.Format.{house-of}
-use Rattle.rooms.specs.Rows.{number, signed}
-use Rattle.whole.specs.Bounds.{Within}
+use Rattle.rooms.specs.Rows.{signed}
 use Rattle.rents.specs.Rents.{rents-of, spare}
-use Rattle.rents.specs.Answer.{Fair, bits, held, most-due}
-use Rattle.rents.proofs.Sizes.{lengths-small, spare-small, worths-small}
+use Rattle.rents.specs.Answer.{Fair, bits, held}
+use Rattle.rents.proofs.Sizes.{spare-small, worths-small}
 use Rattle.rents.proofs.Answered.{fair-rents, gained, held-rents, spare-is}
 use Rattle.rents.proofs.fairest.fairest_rents.Needs as need
 
@@ -67,14 +64,16 @@ returns c =
     let z : toZ w64 (ofZ w64 (c .left-over-least .result)) ≡ spare h room d =
     toZ-ofZ w64 (c .left-over-least .result) (record { sfits = c .left-over-least .ok }) ∙ s in
     let w : c .write-rents .last .rents ≡ bits (rents-of h room d) ++ drop (h .n) (c .args .rents .now) =
-    c .write-rents .ensures ∙ ap (λ k. bits (rents-of h room d) ++ drop k (c .args .rents .now)) n in
+    subst (λ k. c .write-rents .last .rents ≡ bits (rents-of h room d) ++ drop k (c .args .rents .now)) n (c .write-rents .ensures) in
     let t : held (h .n) (c .write-rents .last .rents) ≡ rents-of h room d =
     ap (held (h .n)) w ∙ held-rents h room (c .args .d) a (c .pre .measured) (drop (h .n) (c .args .rents .now)) in
     record {
       rents = w;
       joint = toZ-ofZ w64 (c .joint-worth-joint .result) (record { sfits = c .joint-worth-joint .ok }) ∙ c .joint-worth-joint .ensures;
       least = z;
-      gains = c .all-gains .ensures ∙ gained h room (c .args .d) (c .count-n .result) (toZ w64 (ofZ w64 (c .left-over-least .result))) (c .pre .measured) n z;
+      gains =
+          subst (λ gs. c .all-gains .result ≡ gs)
+          (gained h room (c .args .d) (c .count-n .result) (toZ w64 (ofZ w64 (c .left-over-least .result))) (c .pre .measured) n z) (c .all-gains .ensures);
       held = t;
       fair =
           subst (λ (x : ℤ). Fair h room d (held (h .n) (c .write-rents .last .rents)) x) (sym z)

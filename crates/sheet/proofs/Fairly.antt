@@ -68,7 +68,7 @@ module _ (h : House) (a : Allowed h) where
   lengths-long : length (signed (lengths-of h)) ≡ h .n
   lengths-long = length-map (lengths-of h) pos ∙ length-map-counting _ 0 (h .n)
 
-  rents-long : length (fair-rents h) ≡ h .n
+  pub rents-long : length (fair-rents h) ≡ h .n
   rents-long = length-map-counting _ 0 (h .n)
 
   persons-long : length (signed (persons-of h)) ≡ h .n
@@ -123,10 +123,10 @@ module _ (h : House) (a : Allowed h) where
   natural-64 : (xs : List ℕ) (i : ℕ) → getD xs i 0 ≤ most-worth → Signed-64 (number (signed xs) i)
   natural-64 xs i b = let e = number-signed xs i in record { low = omega (arith, ints); high = omega (arith, ints) }
 
-  due-64 : (x : ℤ) → Within most-due x → Signed-64 x
+  pub due-64 : (x : ℤ) → Within most-due x → Signed-64 x
   due-64 x w = let l = w .low in let m = w .high in record { low = omega (arith, ints); high = omega (arith, ints) }
 
-  cent-64 : (r : ℕ) → r < h .n → Signed-64 (number (fair-cents h) r)
+  pub cent-64 : (r : ℕ) → r < h .n → Signed-64 (number (fair-cents h) r)
   cent-64 r l =
       let n = h .n in
       let e = cents-at n (h .rent) (fair-rents h) r l in

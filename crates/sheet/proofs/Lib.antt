@@ -3,6 +3,7 @@ pub mod Pieces
 pub mod Roundtrips
 pub mod Sheets
 mod Fairly
+mod Laid
 mod Entered
 mod Shared
 mod Lengths

@@ -74,21 +74,21 @@ Always-fair = (h : House) → Allowed h → Fair-share h
 -- THE WHOLE PROMISE of share where it answers: the bytes are those of a house; what each lent slice holds afterwards, with everything past the part used
 -- as it was; the numbers that are answered; and that the share is fair.
 pub record Shares (group rooms rents work sheet rooms′ rents′ work′ sheet′ : List ℕ) (people : ℕ) (joint-worth least : ℤ) (looks : ℕ) : Type 0 where
-  pub read : read group ≡ taken (house-of group)
-  pub rooms : rooms′ ≡ sharing-of (house-of group) ++ drop (house-of group .n) rooms
-  pub rents : rents′ ≡ bits (fair-rents (house-of group)) ++ (bits (fair-cents (house-of group)) ++ drop (2 * house-of group .n) rents)
-  pub work : work′ ≡ replicate (work-for (house-of group .n)) 0 ++ drop (work-for (house-of group .n)) work
-  pub sheet : sheet′ ≡ sheet-bytes (house-of group .n) (sheet-for (house-of group)) ++ drop (sheet-length (house-of group .n)) sheet
-  pub people : people ≡ house-of group .n
-  pub joint : joint-worth ≡ joint (house-of group) (sharing-of (house-of group))
-  pub least : least ≡ spare (house-of group) (sharing-of (house-of group)) (signed (lengths-of (house-of group)))
-  pub looks : looks ≡ looks-of (house-of group)
+  pub house : read group ≡ taken (house-of group)
+  pub placed : rooms′ ≡ sharing-of (house-of group) ++ drop (house-of group .n) rooms
+  pub priced : rents′ ≡ bits (fair-rents (house-of group)) ++ (bits (fair-cents (house-of group)) ++ drop (2 * house-of group .n) rents)
+  pub cleaned : work′ ≡ replicate (work-for (house-of group .n)) 0 ++ drop (work-for (house-of group .n)) work
+  pub written : sheet′ ≡ sheet-bytes (house-of group .n) (sheet-for (house-of group)) ++ drop (sheet-length (house-of group .n)) sheet
+  pub count : people ≡ house-of group .n
+  pub together : joint-worth ≡ joint (house-of group) (sharing-of (house-of group))
+  pub poorest : least ≡ spare (house-of group) (sharing-of (house-of group)) (signed (lengths-of (house-of group)))
+  pub looked : looks ≡ looks-of (house-of group)
   pub fair : Fair-share (house-of group)
 
 -- And where it refuses: by the first reason there is, and nothing lent has changed.
 pub record Refuses (group rooms rents work sheet rooms′ rents′ work′ sheet′ : List ℕ) (number place : ℕ) : Type 0 where
   pub reason : lent-enough (length rooms) (length rents) (length work) (length sheet) (read group) ≡ refused (number, place)
-  pub rooms : rooms′ ≡ rooms
-  pub rents : rents′ ≡ rents
-  pub work : work′ ≡ work
-  pub sheet : sheet′ ≡ sheet
+  pub rooms-kept : rooms′ ≡ rooms
+  pub rents-kept : rents′ ≡ rents
+  pub work-kept : work′ ≡ work
+  pub sheet-kept : sheet′ ≡ sheet

@@ -93,7 +93,8 @@ fn offer_through(n: usize, table: &[u64], k: usize, rest: u64, offer: &mut [u64]
     ensures { λ _. ⌜ offers (now (offer .exit)) (now (from .exit)) ≡ through (in-table (now (table .entry)) n) n k rest (offers (now (offer .entry)) (now (from .entry))) ⌝ }
 {
     for i in 0..n {
-        let left = rest + table[i * n + k];
+        let place = i * n + k;
+        let left = rest + table[place];
         if left < offer[i] {
             offer[i] = left;
             from[i] = k as u8;

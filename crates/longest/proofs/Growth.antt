@@ -3,7 +3,7 @@ use native.Mathlib.Omega.{arith}
 use mathlib.Core.Path.{_≡_, refl, sym, _∙_, ap, subst}
 use mathlib.Core.Logic.{_⊎_, inl, inr, _≢_}
 use mathlib.Core.List.{List}
-use mathlib.Core.Bool.{true, cond}
+use mathlib.Core.Bool.{cond}
 use Prim.Native.Nat.{ℕ, zero, suc, _+_, _≤_, _<_}
 use lib.Dec.{eqb, ltb}
 use lib.ListN.{length, getD, set}
@@ -117,7 +117,9 @@ module _ (n : ℕ) (few : n ≤ nobody) (s : ℕ → ℕ → ℕ) (u l b o f : L
   fewer h = omega (arith, first (suc m) 0 h (g .ends 0 h), g .few)
 
   -- Person k takes the offer made, the least of those that make a row longer. Nobody grows twice: whoever grew has at most t left, and no offer that
-  -- makes a row longer is below t. So nobody stands behind k yet, and who stands before k did not go back to k.
+  -- makes a row longer is below t, so k has not grown yet; nor does anybody stand behind k, who would have grown and have at least as much left as k.
+  -- So nothing that was settled changes: rows back are as they were, and that of k is one person longer than that of the one who made the offer.
+  -- What k offers now is at least the offer taken, since slacks are not below nothing, and so no offer is below it.
   module _ (k : ℕ) (x : Next n l o k) where
     later : t ≤ at o k
     later = g .late k (x .here) (x .longer)

@@ -1,6 +1,6 @@
 -- What the search finds, in the lengths of ways: a way is what the numbers rise on it, less its slack.
 use native.Mathlib.Omega.{arith}
-use mathlib.Core.Path.{_≡_, refl, subst}
+use mathlib.Core.Path.{_≡_, refl, ap, subst}
 use mathlib.Core.Logic.{inl, inr}
 use mathlib.Core.List.{List, [], _∷_}
 use Prim.Native.Nat.{ℕ, zero, suc, _+_, _-_, _≤_, _<_}
@@ -14,9 +14,9 @@ use Rattle.rooms.specs.Rows.{Certified, number, signed, way}
 use Rattle.rooms.specs.Before.{nobody, prior, Ends, Comes, Rows-shown}
 use Rattle.assignment.specs.Search.{at}
 use Rattle.longest.specs.Run.{slack, whole-run}
-use Rattle.longest.specs.Promise.{longest-of, before-of, rounds-of, Search-ends, One-longest}
+use Rattle.longest.specs.Promise.{longest-of, before-of, rounds-of, Search-ends, Same-run, One-longest}
 use Rattle.longest.proofs.Growth.{ends-up, fewer}
-use Rattle.longest.proofs.Rounds.{Ended, ended}
+use Rattle.longest.proofs.Rounds.{Ended, ended, whole-same}
 
 -- A natural number of a list, as a signed one.
 pub number-signed : (xs : List ℕ) (i : ℕ) → number (signed xs) i ≡ pos (at xs i)
@@ -84,6 +84,11 @@ befores-long h room u v c some few fits = end h room u v c some few fits .grown 
 
 pub search-ends : Search-ends
 search-ends h room u v some few fits c = (run-shown h room u v c some few fits, rounds-few h room u v c some few fits)
+
+pub same-run : Same-run
+unfolding whole-run
+same-run h room other u v e =
+    whole-same (h .n) (slack h room u v) (slack h other u v) (λ k i hk hi. ap (λ r. at u i + at v r - worth-at h i r) (e k hk)) u
 
 -- Each is the length of a row, and so at most the other.
 pub one-longest : One-longest

@@ -5,9 +5,9 @@ use Prim.Native.Nat.{ℕ, _-_, _*_, _≤_, _<_}
 use lib.IntN.{ℤ}
 use lib.ListN.{length, replicate}
 use Rattle.std.specs.Iters.{counting}
-use Rattle.rooms.specs.House.{House}
-use Rattle.rooms.specs.Format.{most-people, most-worth}
-use Rattle.rooms.specs.Rows.{Certified, Longest, number, signed, way}
+use Rattle.rooms.specs.House.{House, room-of}
+use Rattle.rooms.specs.Format.{most-people}
+use Rattle.rooms.specs.Rows.{Certified, Longest, number, signed}
 use Rattle.rooms.specs.Before.{nobody, Rows-shown}
 use Rattle.assignment.specs.Search.{at}
 use Rattle.longest.specs.Run.{whole-run}
@@ -38,6 +38,11 @@ abbrev pub Search-ends : Type 0
 Search-ends =
     (h : House) (room u v : List ℕ) → 0 < h .n → h .n ≤ nobody → h .n ≤ length u → Certified h room (signed u) (signed v) →
     Rows-shown h room (signed (longest-of h room u v)) (before-of h room u v) × (rounds-of h room u v < h .n)
+
+-- Only the rooms of the n people count: what a longer list holds past them changes nothing.
+abbrev pub Same-run : Type 0
+Same-run =
+    (h : House) (room other u v : List ℕ) → ((i : ℕ) → i < h .n → room-of room i ≡ room-of other i) → whole-run h room u v ≡ whole-run h other u v
 
 -- There is one list of the longest lengths.
 abbrev pub One-longest : Type 0

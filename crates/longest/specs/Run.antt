@@ -4,7 +4,7 @@ use mathlib.Core.Path.{_≡_}
 use mathlib.Core.List.{List, map}
 use Prim.Native.Nat.{ℕ, zero, suc, _+_, _-_, _*_, _≤_, _<_}
 use lib.Dec.{ltb, eqb}
-use lib.ListN.{length, getD, set, take, replicate}
+use lib.ListN.{length, set, take, replicate}
 use Rattle.std.specs.Iters.{counting}
 use Rattle.rooms.specs.House.{House, worth-at, room-of}
 use Rattle.rooms.specs.Format.{most-people, most-worth}
@@ -26,7 +26,8 @@ pub record Table (n : ℕ) (table : List ℕ) : Type 0 where
   pub size : length table ≡ n * n
   pub small : (k i : ℕ) → k < n → i < n → in-table table n k i ≤ 2 * most-worth
 
--- For each person, the least that a row to them leaves of their number if they came last to a row found so far; and who stands before them there.
+-- The best offers: for each person, the least that a row found so far would leave of their number with them at its end; and who would stand before
+-- them.
 pub record Offers : Type 0 where
   pub offer : List ℕ
   pub from : List ℕ
@@ -78,6 +79,7 @@ run s n (suc t) x =
     let k : ℕ = nearest n (x .left) (x .offered .offer) n in
     cond (eqb k n) x (run s n t (lengthened s n k x))
 
+-- Where it begins: everybody is alone in their row.
 unfoldable pub start : (ℕ → ℕ → ℕ) → ℕ → List ℕ → State
 start s n u = state (take n u) (replicate n nobody) (first-offers s n u n) 0
 

@@ -3,15 +3,15 @@
 ghost use mathlib.Core.Path.{_≡_};
 ghost use mathlib.Core.List.{map, _++_};
 ghost use Prim.Native.Nat.{ℕ, _+_, _-_, _*_, _<_, _≤_};
-ghost use lib.ListN.{length, drop, take, replicate};
+ghost use lib.ListN.{length, drop, replicate};
 ghost use Rattle.std.specs.Iters.{counting};
 ghost use Rattle.rooms.specs.Format.{most-people, most-worth, house-of};
 ghost use Rattle.rooms.specs.Rows.{Longest, signed};
-ghost use Rattle.rooms.specs.Before.{nobody, Rows-shown};
+ghost use Rattle.rooms.specs.Before.{Rows-shown};
 ghost use Rattle.assignment.specs.Search.{at};
 ghost use Rattle.longest.specs.Run.{slack, in-table, Table, offers, through, first-offers, state, nearer, run, start};
 ghost use Rattle.assignment.specs.Promise.{Solved};
-ghost use Rattle.longest.specs.Promise.{work-len, Found, Search-ends, One-longest};
+ghost use Rattle.longest.specs.Promise.{work-len, Found, Search-ends, Same-run, One-longest};
 use rooms::Group;
 use rooms::group::MOST_PEOPLE;
 
@@ -64,6 +64,7 @@ pub fn longest_rows(
 // What holds of the search and of the longest rows, whatever the house.
 pub fn rows_stand()
     ensures ends { λ _. ⌜ Search-ends ⌝ }
+    ensures same { λ _. ⌜ Same-run ⌝ }
     ensures one { λ _. ⌜ One-longest ⌝ }
 {}
 
@@ -93,7 +94,8 @@ fn offer_through(n: usize, table: &[u64], k: usize, rest: u64, offer: &mut [u64]
     ensures { λ _. ⌜ offers (now (offer .exit)) (now (from .exit)) ≡ through (in-table (now (table .entry)) n) n k rest (offers (now (offer .entry)) (now (from .entry))) ⌝ }
 {
     for i in 0..n {
-        let left = rest + table[i * n + k];
+        let place = i * n + k;
+        let left = rest + table[place];
         if left < offer[i] {
             offer[i] = left;
             from[i] = k as u8;

@@ -4,8 +4,8 @@ use Rattle.longest.proofs.Passing.{in-line, passing-none, passing-takes, passi
 use Rattle.longest.proofs.offer_through.Needs as need
 use Rattle.longest.proofs.offer_through.Needs.{then-left-offer, else-left-offer}
 
-pub index-table-i : need.index-table-i
-index-table-i c = in-line (c .loop-i .i) (c .args .k) (c .args .n) _ (c .loop-i-test .taken) (omega arith) (c .pre .table .size)
+pub index-table-place : need.index-table-place
+index-table-place c = in-line (c .loop-i .i) (c .args .k) (c .args .n) _ (c .loop-i-test .taken) (omega arith) (c .pre .table .size)
 
 pub loop-i-holds : need.loop-i-holds
 loop-i-holds c = passing-none _ _ _ _ _

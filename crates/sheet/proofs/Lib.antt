@@ -2,3 +2,4 @@ pub mod Padded
 mod Entered
 mod Shared
 mod Lengths
+mod Priced

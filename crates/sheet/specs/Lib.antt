@@ -2,3 +2,4 @@ pub mod Format
 pub mod Judge
 pub mod Verdicts
 pub mod Entries
+pub mod Terms

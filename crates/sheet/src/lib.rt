@@ -2,7 +2,9 @@
 pub mod columns;
 pub mod entries;
 pub mod faults;
+pub mod prices;
 pub mod rows;
+pub mod terms;
 pub mod verdict;
 
 pub use verdict::Verdict;

@@ -3,3 +3,5 @@ mod Entered
 mod Shared
 mod Lengths
 mod Priced
+mod Judged
+mod Meant

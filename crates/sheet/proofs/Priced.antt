@@ -9,7 +9,7 @@ use lib.IntN.{ℤ, pos, negℤ, _+ℤ_, _-ℤ_, _*ℤ_}
 use lib.ListN.{length, getD, set}
 use lib.Signed.{ltZ}
 use borrow.Author.Count.{below-more}
-use Rattle.std.proofs.shelf.Counted.{getD-map-counting}
+use Rattle.std.proofs.shelf.Counted.{getD-map-counting, length-map-counting}
 use Rattle.std.proofs.shelf.Lists.{getD-set-other, getD-set-same}
 use Rattle.std.proofs.shelf.Signed.{ints}
 use Rattle.rooms.specs.House.{House, Housed, joint, rent-of, room-of, sum, value, worth-at}
@@ -79,7 +79,7 @@ module _ (h : House) (c : Claim) where
         let e : due h (c .room) (c .d) i ≡ negℤ S +ℤ own-part h c i *ℤ pos (h .n) = omega (arith, ints) in
         ap (λ (z : ℤ). floor z (h .n)) e ∙ moved (negℤ S) (own-part h c i) (h .n) some .0 ∙ omega (arith, ints)
 
-    rent-at : (r : ℕ) → r < h .n → rent-of (rents-of h (c .room) (c .d)) r ≡ due h (c .room) (c .d) (whose h (c .room) r)
+    pub rent-at : (r : ℕ) → r < h .n → rent-of (rents-of h (c .room) (c .d)) r ≡ due h (c .room) (c .d) (whose h (c .room) r)
     rent-at r l = getD-map-counting (λ r. due h (c .room) (c .d) (whose h (c .room) r)) 0 (h .n) r r (pos 0) l (omega arith)
 
     floor-rent : (r : ℕ) → r < h .n →
@@ -116,6 +116,9 @@ module _ (h : House) (c : Claim) where
         getD-map-counting (λ r. floor (rent-of ps r) (h .n) +ℤ cond (ltZ (pos r) m) (pos 1) (pos 0)) 0 (h .n) r r (pos 0) l (omega arith)
         ∙ ap (λ (z : ℤ). z +ℤ cond (ltZ (pos r) m) (pos 1) (pos 0)) (floor-rent r l)
         ∙ ap (λ (z : ℤ). (own-part h c (whose h (c .room) r) +ℤ floor (negℤ (spare h (c .room) (c .d))) (h .n)) +ℤ cond (ltZ (pos r) z) (pos 1) (pos 0)) missing-is
+
+pub cents-long : (n rent : ℕ) (ps : List ℤ) → length (cents-of n rent ps) ≡ n
+cents-long n rent ps = length-map-counting (λ r. floor (rent-of ps r) n +ℤ cond (ltZ (pos r) (extra n rent ps)) (pos 1) (pos 0)) 0 n
 
 -- ---- the tests of a rent and of cents, by what they are reckoned from
 pub rent-test : (h : House) (c : Claim) (r k m : ℕ) (a o t s d : ℤ) → a ≡ rent-of (c .rents) r → o ≡ own-part h c k → k ≡ whose h (c .room) r → m ≡ h .n →

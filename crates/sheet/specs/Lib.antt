@@ -3,3 +3,4 @@ pub mod Judge
 pub mod Verdicts
 pub mod Entries
 pub mod Terms
+pub mod Accepted

@@ -1,4 +1,5 @@
 // The sheet that shows a share to be the fairest: writing one, checking one, and the two public calls, share and check.
+pub mod checker;
 pub mod columns;
 pub mod entries;
 pub mod faults;
@@ -7,4 +8,5 @@ pub mod rows;
 pub mod terms;
 pub mod verdict;
 
+pub use checker::check;
 pub use verdict::Verdict;

@@ -37,7 +37,9 @@ use Rattle.rents.proofs.Shown.{shown-fairest}
 use Rattle.sheet.specs.Format.{Sheet, byte-column, column, sheet-bytes, sheet-of}
 use Rattle.sheet.specs.Roundtrip.{Sheet-fits}
 use Rattle.sheet.proofs.Roundtrips.{reads-back}
-use Rattle.sheet.specs.Share.{fair-cents, fair-rents, lengths-of, priors-of, sheet-for}
+use Rattle.sheet.specs.Judge.{judge-sheet}
+use Rattle.sheet.proofs.Meant.{shown-accepted}
+use Rattle.sheet.specs.Share.{Fair-share, fair-cents, fair-rents, lengths-of, priors-of, sheet-for}
 
 module _ (h : House) (a : Allowed h) where
   found : Answered h
@@ -178,3 +180,12 @@ module _ (h : House) (a : Allowed h) where
     where
       same : {X : Type 0} (xs ys : List X) (d : X) → length xs ≡ h .n → length ys ≡ h .n → ((i : ℕ) → i < h .n → getD xs i d ≡ getD ys i d) → xs ≡ ys
       same xs ys d p q e = ext-getD d xs ys (p ∙ sym q) (λ i l. e i (omega arith))
+
+  pub fair : Fair-share h
+  fair = record {
+    best = means .best;
+    fairest = means .fairest;
+    cents = cents;
+    few = found .few .cube;
+    accepted = ap (judge-sheet h) read-back ∙ shown-accepted h (sheet-for h) shown (λ r l. refl);
+  }

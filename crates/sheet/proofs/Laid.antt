@@ -9,19 +9,23 @@ use mir.Syntax.{w64}
 use mir.Val.{SFits, ofZ, toZ}
 use Rattle.std.specs.Iters.{counting}
 use Rattle.std.proofs.shelf.Counted.{length-map-counting}
-use Rattle.std.proofs.shelf.Lists.{drop-append-le, drop-drop, drop-replicate, getD-append-left, getD-append-right, getD-map, length-append, length-map, length-replicate, replicate-append-replicate, take-at, drop-at}
+use Rattle.std.proofs.shelf.Lists.{append-nil, drop-append-le, drop-drop, drop-replicate, getD-append-left, getD-append-right, getD-map, length-append, length-map, length-replicate, replicate-append-replicate, take-at, drop-at}
 use Rattle.std.proofs.shelf.Signed.{ints, toZ-ofZ}
 use Rattle.rooms.specs.Before.{nobody, prior}
-use Rattle.rooms.specs.Format.{Allowed, most-people}
+use Rattle.rooms.specs.Format.{Allowed, most-people, most-worth}
 use Rattle.rooms.specs.House.{House, joint, rent-of, room-of, sum, value}
-use Rattle.rooms.specs.Rows.{number, signed}
+use Rattle.rooms.specs.Rows.{Longest, number, signed}
+use Rattle.rooms.proofs.Sharing.{certified-best}
 use Rattle.assignment.specs.Answer.{array-of, persons-of, prices-of, sharing-of}
+use Rattle.assignment.specs.Promise.{Solved}
+use Rattle.assignment.proofs.Shown.{answered, answered-front}
 use Rattle.longest.proofs.Padded.{padded-reads}
 use Rattle.longest.proofs.Slacks.{number-signed}
-use Rattle.rents.specs.Answer.{bits}
+use Rattle.rents.specs.Answer.{Measured, bits, held}
 use Rattle.rents.specs.Rents.{due, rents-of, spare, whose}
 use Rattle.whole.specs.Bits.{Signed-64}
-use Rattle.sheet.specs.Format.{sheet-bytes}
+use Rattle.cents.specs.Cents.{cents-of}
+use Rattle.sheet.specs.Format.{sheet-bytes, sheet-length}
 use Rattle.sheet.specs.Write.{handed}
 use Rattle.sheet.specs.Share.{fair-cents, fair-rents, lengths-of, priors-of, sheet-for}
 use Rattle.sheet.proofs.Sheets.{Says, handed-says}
@@ -98,3 +102,58 @@ module _ (h : House) (a : Allowed h) (tail : List ℕ) where
     persons = λ i l. natural-there (persons-of h) (most-people - length (persons-of h)) i;
     rooms = λ r l. natural-there (prices-of h) (most-people - length (prices-of h)) r;
   })
+
+-- ---- what each part of share has left, by equations between what it was given and the house
+
+module _ (h : House) (a : Allowed h) where
+  pub solved-as : (rooms persons prices : List ℕ) → rooms ≡ sharing-of h → persons ≡ array-of (persons-of h) → prices ≡ array-of (prices-of h) →
+      Solved h most-worth rooms persons prices
+  solved-as rooms persons prices er eu ev =
+      subst (λ z. Solved h most-worth z persons prices) (sym er)
+      (subst (λ z. Solved h most-worth (sharing-of h) z prices) (sym eu)
+      (subst (λ z. Solved h most-worth (sharing-of h) (array-of (persons-of h)) z) (sym ev)
+      (subst (λ z. Solved h most-worth z (array-of (persons-of h)) (array-of (prices-of h))) (append-nil (sharing-of h)) (answered-front h [] _ _ a))))
+
+  pub measured-as : (rooms persons prices d : List ℕ) → Solved h most-worth rooms persons prices → Longest h rooms (signed d) →
+      ((i : ℕ) → getD d i 0 ≤ most-worth) → Measured h rooms d
+  measured-as rooms persons prices d s l low = record {
+    housed = s .certified .housed;
+    best = certified-best h rooms (signed persons) (signed prices) (s .certified);
+    longest = l;
+    low = low;
+  }
+
+  pub priced : (n rent : ℕ) (rooms d entry once after : List ℕ) → n ≡ h .n → rent ≡ h .rent → rooms ≡ sharing-of h →
+      d ≡ lengths-of h ++ replicate (most-people - h .n) 0 → once ≡ bits (rents-of h rooms (signed d)) ++ drop (h .n) entry →
+      held (h .n) once ≡ rents-of h rooms (signed d) → after ≡ take n once ++ (bits (cents-of n rent (held n once)) ++ drop (n + n) once) →
+      after ≡ bits (fair-rents h) ++ (bits (fair-cents h) ++ drop (2 * h .n) entry)
+  priced n rent rooms d entry once after en et er ed eo eh ea =
+      let e : rents-of h rooms (signed d) ≡ fair-rents h =
+          (λ j. rents-of h (er j) (signed (ed j))) ∙ rents-padded h (sharing-of h) (lengths-of h) (most-people - h .n) in
+      let o : once ≡ bits (fair-rents h) ++ drop (h .n) entry = eo ∙ ap (λ qs. bits qs ++ drop (h .n) entry) e in
+      let l : length (bits (fair-rents h)) ≡ h .n = length-map (fair-rents h) (ofZ w64) ∙ rents-long h a in
+      let t : take (h .n) once ≡ bits (fair-rents h) = ap (take (h .n)) o ∙ take-at (bits (fair-rents h)) (drop (h .n) entry) (h .n) l in
+      let u : held (h .n) once ≡ fair-rents h = eh ∙ e in
+      let two : h .n + h .n ≡ 2 * h .n = omega arith in
+      let v : drop (h .n + h .n) once ≡ drop (2 * h .n) entry =
+          sym (drop-drop (h .n) (h .n) once) ∙ ap (λ zs. drop (h .n) (drop (h .n) zs)) o
+          ∙ ap (drop (h .n)) (drop-at (bits (fair-rents h)) (drop (h .n) entry) (h .n) l) ∙ drop-drop (h .n) (h .n) entry ∙ ap (λ (k : ℕ). drop k entry) two in
+      ea ∙ (λ j. take (en j) once ++ (bits (cents-of (en j) (et j) (held (en j) once)) ++ drop (en j + en j) once))
+      ∙ (λ j. t j ++ (bits (cents-of (h .n) (h .rent) (u j)) ++ v j))
+
+  pub least-as : (rooms d : List ℕ) → rooms ≡ sharing-of h → d ≡ lengths-of h ++ replicate (most-people - h .n) 0 →
+      spare h rooms (signed d) ≡ spare h (sharing-of h) (signed (lengths-of h))
+  least-as rooms d er ed = (λ j. spare h (er j) (signed (ed j))) ∙ spare-padded h (sharing-of h) (lengths-of h) (most-people - h .n)
+
+  pub front-as : (n : ℕ) (rooms rest : List ℕ) → n ≡ h .n → rooms ≡ sharing-of h ++ rest → take (n - 0) rooms ≡ sharing-of h
+  front-as n rooms rest en er =
+      let z : n - 0 ≡ h .n = omega arith in
+      ap (λ (k : ℕ). take k rooms) z ∙ ap (take (h .n)) er ∙ take-at (sharing-of h) rest (h .n) (answered h a .all-rooms)
+
+  pub sheet-as : (n : ℕ) (rooms before d rents persons prices old tail : List ℕ) → n ≡ h .n → rooms ≡ sharing-of h →
+      before ≡ priors-of h ++ replicate (most-people - h .n) nobody → d ≡ lengths-of h ++ replicate (most-people - h .n) 0 →
+      rents ≡ bits (fair-rents h) ++ (bits (fair-cents h) ++ tail) → persons ≡ array-of (persons-of h) → prices ≡ array-of (prices-of h) →
+      sheet-bytes n (handed n rooms before d rents persons prices) ++ drop (sheet-length n) old ≡ sheet-bytes (h .n) (sheet-for h) ++ drop (sheet-length (h .n)) old
+  sheet-as n rooms before d rents persons prices old tail en er eb ed eq eu ev =
+      (λ j. sheet-bytes (en j) (handed (en j) (er j) (eb j) (ed j) (eq j) (eu j) (ev j)) ++ drop (sheet-length (en j)) old)
+      ∙ ap (λ z. z ++ drop (sheet-length (h .n)) old) (laid h a tail)

@@ -7,3 +7,6 @@ mod Laid
 mod Entered
 mod Shared
 mod Lengths
+mod Priced
+mod Judged
+mod Meant

@@ -1,8 +1,10 @@
 pub mod Format
-pub mod Judge
-pub mod Verdicts
 pub mod Write
 pub mod Roundtrip
+pub mod Judge
+pub mod Verdicts
+pub mod Accepted
 pub mod Entries
+pub mod Terms
 pub mod Share
 pub mod Report

@@ -1,11 +1,17 @@
 // The sheet that shows a share to be the fairest: writing one, checking one, and the two public calls, share and check.
+pub mod checker;
 pub mod columns;
 pub mod entries;
 pub mod faults;
+pub mod prices;
 pub mod report;
 pub mod rows;
-pub mod share;
+pub mod sharing;
+pub mod terms;
 pub mod verdict;
 pub mod write;
 
+pub use checker::check;
+pub use sharing::Shared;
+pub use sharing::share;
 pub use verdict::Verdict;

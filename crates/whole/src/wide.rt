@@ -45,9 +45,9 @@ pub fn wide_times(a: i128, n: u32) -> i128
 }
 
 pub fn wide_floor(a: i128, n: u32) -> i128
-    requires { ⌜ 0 < n ⌝ ∗ ⌜ Within (2 ^ 120) a ⌝ }
+    requires { ⌜ 0 < n ⌝ ∗ ⌜ Within (2 ^ 100) a ⌝ }
     ensures value { λ r. ⌜ r ≡ floor a n ⌝ }
-    ensures within { λ r. ⌜ Within (2 ^ 120) r ⌝ }
+    ensures within { λ r. ⌜ Within (2 ^ 100) r ⌝ }
 {
     a.div_euclid(n as i128)
 }

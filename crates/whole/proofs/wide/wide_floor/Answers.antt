@@ -15,4 +15,4 @@ returns c =
     let h : c .args .n < 2 ^ hbits w128 = omega arith in
     let e : toZ w128 (ofZ w128 (c .div-euclid .result)) ≡ floor (c .args .a) (c .args .n) =
     toZ-ofZ w128 (c .div-euclid .result) f ∙ (simp (toZ-ofZ, toZ-pos) at (c .div-euclid .ensures)) ∙ euclid-floor (c .args .a) (c .args .n) in
-    record { value = e; within = rw e (floor-within (2 ^ 120) (c .args .a) (c .args .n) (c .pre .1)) }
+    record { value = e; within = rw e (floor-within (2 ^ 100) (c .args .a) (c .args .n) (c .pre .1)) }

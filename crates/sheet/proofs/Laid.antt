@@ -1,8 +1,10 @@
 -- What the slices hold when share has laid its answer into them: lengths in arrays, numbers as bits, work that was cleaned twice.
 use mathlib.Core.Path.{_≡_, refl, sym, ap, subst, _∙_}
+use mathlib.Core.Bool.{Bool, true, false, cond}
 use mathlib.Core.List.{List, [], _++_, map, append-assoc}
 use Prim.Native.Nat.{ℕ, _+_, _-_, _*_, _≤_, _<_}
 use native.Mathlib.Omega.{arith}
+use lib.Dec.{ltb}
 use lib.IntN.{ℤ, pos, _-ℤ_, _*ℤ_}
 use lib.ListN.{length, getD, take, drop, replicate}
 use mir.Syntax.{w64}
@@ -11,12 +13,14 @@ use Rattle.std.specs.Iters.{counting}
 use Rattle.std.proofs.shelf.Counted.{length-map-counting}
 use Rattle.std.proofs.shelf.Lists.{append-nil, drop-append-le, drop-drop, drop-replicate, getD-append-left, getD-append-right, getD-map, length-append, length-map, length-replicate, replicate-append-replicate, take-at, drop-at}
 use Rattle.std.proofs.shelf.Signed.{ints, toZ-ofZ}
+use Rattle.std.proofs.shelf.Tests.{both-ways}
 use Rattle.rooms.specs.Before.{nobody, prior}
-use Rattle.rooms.specs.Format.{Allowed, most-people, most-worth}
+use Rattle.rooms.specs.Format.{Allowed, Reading, is-taken, most-people, most-worth}
+use Rattle.rooms.specs.Format.Reading.{taken, refused}
 use Rattle.rooms.specs.House.{House, joint, rent-of, room-of, sum, value}
 use Rattle.rooms.specs.Rows.{Longest, number, signed}
 use Rattle.rooms.proofs.Sharing.{certified-best}
-use Rattle.assignment.specs.Answer.{array-of, persons-of, prices-of, sharing-of}
+use Rattle.assignment.specs.Answer.{array-of, persons-of, prices-of, sharing-of, work-for}
 use Rattle.assignment.specs.Promise.{Solved}
 use Rattle.assignment.proofs.Shown.{answered, answered-front}
 use Rattle.longest.proofs.Padded.{padded-reads}
@@ -27,7 +31,7 @@ use Rattle.whole.specs.Bits.{Signed-64}
 use Rattle.cents.specs.Cents.{cents-of}
 use Rattle.sheet.specs.Format.{sheet-bytes, sheet-length}
 use Rattle.sheet.specs.Write.{handed}
-use Rattle.sheet.specs.Share.{fair-cents, fair-rents, lengths-of, priors-of, sheet-for}
+use Rattle.sheet.specs.Share.{fair-cents, fair-rents, lengths-of, lent-enough, priors-of, sheet-for}
 use Rattle.sheet.proofs.Sheets.{Says, handed-says}
 use Rattle.sheet.proofs.Fairly.{cent-64, due-64, roundable, rents-long}
 
@@ -102,6 +106,19 @@ module _ (h : House) (a : Allowed h) (tail : List ℕ) where
     persons = λ i l. natural-there (persons-of h) (most-people - length (persons-of h)) i;
     rooms = λ r l. natural-there (prices-of h) (most-people - length (prices-of h)) r;
   })
+
+-- Where slices are long enough, a group is taken by its own bytes.
+pub taken-lent : (a b c d : ℕ) (r : Reading) (h : House) → lent-enough a b c d r ≡ taken h → r ≡ taken h
+taken-lent a b c d (refused at) h e = e
+taken-lent a b c d (taken k) h e = go (ltb a (k .n)) (ltb b (2 * k .n)) (ltb c (work-for (k .n))) (ltb d (sheet-length (k .n))) e
+  where
+    go : (p q r s : Bool) →
+        cond p (refused (5, 0)) (cond q (refused (5, 1)) (cond r (refused (5, 2)) (cond s (refused (5, 3)) (taken k)))) ≡ taken h → taken k ≡ taken h
+    go true q r s e = absurd (both-ways false refl (ap is-taken e))
+    go false true r s e = absurd (both-ways false refl (ap is-taken e))
+    go false false true s e = absurd (both-ways false refl (ap is-taken e))
+    go false false false true e = absurd (both-ways false refl (ap is-taken e))
+    go false false false false e = e
 
 -- ---- what each part of share has left, by equations between what it was given and the house
 

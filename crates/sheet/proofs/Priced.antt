@@ -22,7 +22,7 @@ use Rattle.rents.specs.Rents.{due, rents-of, spare, whose}
 use Rattle.rents.specs.Shown.{Claim}
 use Rattle.rents.specs.Faults.{differs, rent-fault}
 use Rattle.rents.proofs.Fair.{whose-own}
-use Rattle.cents.specs.Cents.{cents-of, extra}
+use Rattle.cents.specs.Cents.{cents-of, missing-cents}
 use Rattle.sheet.specs.declared.entries.Entries.{Entries}
 use Rattle.sheet.specs.Entries.{claimed}
 use Rattle.sheet.specs.Format.{Sheet}
@@ -87,8 +87,9 @@ module _ (h : House) (c : Claim) where
     floor-rent r l = ap (λ (z : ℤ). floor z (h .n)) (rent-at r l) ∙ floor-due (whose h (c .room) r)
 
     -- The floors add up to all own parts and n times the even part; what is missing to the rent is what n even parts leave of the surplus.
-    missing-is : extra (h .n) (h .rent) (rents-of h (c .room) (c .d)) ≡
+    missing-is : missing-cents (h .n) (h .rent) (rents-of h (c .room) (c .d)) ≡
         negℤ (spare h (c .room) (c .d)) -ℤ floor (negℤ (spare h (c .room) (c .d))) (h .n) *ℤ pos (h .n)
+    unfolding missing-cents
     missing-is =
         let n = h .n in
         let F = floor (negℤ (spare h (c .room) (c .d))) n in
@@ -112,13 +113,13 @@ module _ (h : House) (c : Claim) where
         +ℤ cond (ltZ (pos r) (negℤ (spare h (c .room) (c .d)) -ℤ floor (negℤ (spare h (c .room) (c .d))) (h .n) *ℤ pos (h .n))) (pos 1) (pos 0)
     cents-at r l =
         let ps = rents-of h (c .room) (c .d) in
-        let m = extra (h .n) (h .rent) ps in
+        let m = missing-cents (h .n) (h .rent) ps in
         getD-map-counting (λ r. floor (rent-of ps r) (h .n) +ℤ cond (ltZ (pos r) m) (pos 1) (pos 0)) 0 (h .n) r r (pos 0) l (omega arith)
         ∙ ap (λ (z : ℤ). z +ℤ cond (ltZ (pos r) m) (pos 1) (pos 0)) (floor-rent r l)
         ∙ ap (λ (z : ℤ). (own-part h c (whose h (c .room) r) +ℤ floor (negℤ (spare h (c .room) (c .d))) (h .n)) +ℤ cond (ltZ (pos r) z) (pos 1) (pos 0)) missing-is
 
 pub cents-long : (n rent : ℕ) (ps : List ℤ) → length (cents-of n rent ps) ≡ n
-cents-long n rent ps = length-map-counting (λ r. floor (rent-of ps r) n +ℤ cond (ltZ (pos r) (extra n rent ps)) (pos 1) (pos 0)) 0 n
+cents-long n rent ps = length-map-counting (λ r. floor (rent-of ps r) n +ℤ cond (ltZ (pos r) (missing-cents n rent ps)) (pos 1) (pos 0)) 0 n
 
 -- ---- the tests of a rent and of cents, by what they are reckoned from
 pub rent-test : (h : House) (c : Claim) (r k m : ℕ) (a o t s d : ℤ) → a ≡ rent-of (c .rents) r → o ≡ own-part h c k → k ≡ whose h (c .room) r → m ≡ h .n →

@@ -12,6 +12,5 @@ pub mod verdict;
 pub mod write;
 
 pub use checker::check;
-pub use sharing::Shared;
 pub use sharing::share;
 pub use verdict::Verdict;

@@ -4,6 +4,10 @@ use Prim.Native.Nat.{_*_}
 use native.Mathlib.Omega.{arith}
 use lib.ListN.{drop, replicate}
 use denote.Ref.{now}
+use borrow.Author.Needs.{needs}
+use mir.Syntax.{w64}
+use mir.Val.{SFits}
+use Rattle.std.proofs.shelf.Signed.{toZ-ofZ}
 use Rattle.rooms.specs.Format.{house-of}
 use Rattle.assignment.specs.Answer.{work-for}
 use Rattle.sheet.proofs.Laid.{clean-again, front-as, sheet-as}
@@ -35,6 +39,8 @@ returns c =
     let h = house-of (now (c .args .group .now .bytes)) in
     let a = c .count-n .ensures .allowed in
     let en = c .count-n .ensures .people in
+    let fj : SFits w64 (c .price-outcome .result .joint) = search needs in
+    let fl : SFits w64 (c .price-outcome .result .least) = search needs in
     record {
       rooms = c .assign-found .ensures .sharing;
       rents = c .price-outcome .ensures .rents;
@@ -47,7 +53,7 @@ returns c =
           ∙ sheet-as h a _ _ _ _ _ _ _ _ _ en (front-as h a _ _ _ en (c .assign-found .ensures .sharing)) (c .rows-of-rows .ensures .priors)
           (c .rows-of-rows .ensures .lengths) (c .price-outcome .ensures .rents) (c .assign-found .ensures .persons) (c .assign-found .ensures .prices);
       people = en;
-      joint = c .price-outcome .ensures .joint;
-      least = c .price-outcome .ensures .least;
+      joint = toZ-ofZ w64 _ fj ∙ c .price-outcome .ensures .joint;
+      least = toZ-ofZ w64 _ fl ∙ c .price-outcome .ensures .least;
       looks = c .assign-found .ensures .count;
     }

@@ -1,6 +1,6 @@
 // Checks a sheet against a group: whether its rents are the fairest, or its first fault.
-use sheet::check::check;
-use sheet::verdict::Verdict;
+use sheet::Verdict;
+use sheet::check;
 use sheet::verdict::VerdictDisplay;
 use std::env;
 use std::fs;
@@ -8,8 +8,14 @@ use std::io;
 
 fn help(rt: &LibcRuntime) -> io::Result<()> {
     println!(rt, "usage: check GROUP SHEET")?;
-    println!(rt, "Prints 'accepted' where the sheet shows the fairest rents of the group; else 'refused NUMBER at PLACE', for the first")?;
-    println!(rt, "fault of the group or of the sheet, and ends with status 1. docs/SHEET.md has the numbers and the places.")
+    println!(
+        rt,
+        "Prints 'accepted' where the sheet shows the fairest rents of the group; else 'refused NUMBER at PLACE', for the first"
+    )?;
+    println!(
+        rt,
+        "fault of the group or of the sheet, and ends with status 1. docs/SHEET.md has the numbers and the places."
+    )
 }
 
 // The bytes of a file; none, with a line on standard error, where it can't be read.

@@ -1,14 +1,15 @@
 // Reads a group, and tells who has which room and what they pay; writes the sheet that shows it.
 use rooms::group::MOST_PEOPLE;
 use rooms::refusal::RefusalDisplay;
+use sheet::report::JointLine;
 use sheet::report::JointLineDisplay;
+use sheet::report::LeastLine;
 use sheet::report::LeastLineDisplay;
 use sheet::report::PersonLineDisplay;
-use sheet::report::JointLine;
-use sheet::report::LeastLine;
 use sheet::report::person_line;
-use sheet::share::Shared;
-use sheet::share::share;
+use sheet::share;
+use sheet::sharing::Shared;
+use sheet::sheet_len;
 use std::env;
 use std::fs;
 use std::io;
@@ -16,15 +17,29 @@ use std::io::Read;
 
 // What the largest group wants of each slice.
 const RENTS: usize = 2 * MOST_PEOPLE;
+
 const WORK: usize = MOST_PEOPLE * MOST_PEOPLE + 7 * MOST_PEOPLE;
+
 const SHEET: usize = 42 * MOST_PEOPLE;
 
 fn help(rt: &LibcRuntime) -> io::Result<()> {
     println!(rt, "usage: share [GROUP [SHEET]]")?;
-    println!(rt, "Reads a group's bytes from the file GROUP, or from standard input where none or - is given, and tells")?;
-    println!(rt, "who has which room and what they pay: the joint worth, a line for each person, and n times what the one")?;
-    println!(rt, "who has least gains. Writes the sheet that shows it to the file SHEET. A group that is not taken prints")?;
-    println!(rt, "'refused NUMBER at PLACE', writes nothing, and ends with status 1.")
+    println!(
+        rt,
+        "Reads a group's bytes from the file GROUP, or from standard input where none or - is given, and tells"
+    )?;
+    println!(
+        rt,
+        "who has which room and what they pay: the joint worth, a line for each person, and n times what the one"
+    )?;
+    println!(
+        rt,
+        "who has least gains. Writes the sheet that shows it to the file SHEET. A group that is not taken prints"
+    )?;
+    println!(
+        rt,
+        "'refused NUMBER at PLACE', writes nothing, and ends with status 1."
+    )
 }
 
 // The bytes of the named file, or of the standard input.
@@ -57,9 +72,8 @@ fn answer(rt: &LibcRuntime, group: &[u8], sheet_path: &str) -> io::Result<bool> 
     let mut sheet = [0; SHEET];
     match share(group, &mut rooms, &mut rents, &mut work, &mut sheet) {
         Ok(shared) => {
-            let end = sheet_len(shared.people);
-            if sheet_path != "" && end <= SHEET {
-                if let Err(e) = write_whole(rt, sheet_path, &sheet[0..end]) {
+            if sheet_path != "" {
+                if let Err(e) = write_whole(rt, sheet_path, &sheet[0..sheet_len(shared.people)]) {
                     eprintln!(rt, "share: cannot write {sheet_path}: {e}")?;
                     return Ok(false);
                 }
@@ -77,13 +91,18 @@ fn answer(rt: &LibcRuntime, group: &[u8], sheet_path: &str) -> io::Result<bool> 
 // The lines of a share.
 fn tell(rt: &LibcRuntime, shared: &Shared, rooms: &[u32], rents: &[u64]) -> io::Result<()> {
     let n = shared.people;
-    println!(rt, "{}", JointLine(shared.joint))?;
+    let joint = JointLine(shared.joint);
+    println!(rt, "{joint}")?;
     for i in 0..n {
         if let Some(line) = person_line(rooms, rents, n, i) {
             println!(rt, "{line}")?;
         }
     }
-    println!(rt, "{}", LeastLine { least: shared.least, people: n })
+    let least = LeastLine {
+        least: shared.least,
+        people: n,
+    };
+    println!(rt, "{least}")
 }
 
 fn run(rt: &LibcRuntime) -> io::Result<bool> {

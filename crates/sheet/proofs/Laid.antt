@@ -146,15 +146,15 @@ module _ (h : House) (a : Allowed h) where
       after ≡ bits (fair-rents h) ++ (bits (fair-cents h) ++ drop (2 * h .n) entry)
   priced n rent rooms d entry once after en et er ed eo eh ea =
       let e : rents-of h rooms (signed d) ≡ fair-rents h =
-          (λ j. rents-of h (er j) (signed (ed j))) ∙ rents-padded h (sharing-of h) (lengths-of h) (most-people - h .n) in
+      (λ j. rents-of h (er j) (signed (ed j))) ∙ rents-padded h (sharing-of h) (lengths-of h) (most-people - h .n) in
       let o : once ≡ bits (fair-rents h) ++ drop (h .n) entry = eo ∙ ap (λ qs. bits qs ++ drop (h .n) entry) e in
       let l : length (bits (fair-rents h)) ≡ h .n = length-map (fair-rents h) (ofZ w64) ∙ rents-long h a in
       let t : take (h .n) once ≡ bits (fair-rents h) = ap (take (h .n)) o ∙ take-at (bits (fair-rents h)) (drop (h .n) entry) (h .n) l in
       let u : held (h .n) once ≡ fair-rents h = eh ∙ e in
       let two : h .n + h .n ≡ 2 * h .n = omega arith in
       let v : drop (h .n + h .n) once ≡ drop (2 * h .n) entry =
-          sym (drop-drop (h .n) (h .n) once) ∙ ap (λ zs. drop (h .n) (drop (h .n) zs)) o
-          ∙ ap (drop (h .n)) (drop-at (bits (fair-rents h)) (drop (h .n) entry) (h .n) l) ∙ drop-drop (h .n) (h .n) entry ∙ ap (λ (k : ℕ). drop k entry) two in
+      sym (drop-drop (h .n) (h .n) once) ∙ ap (λ zs. drop (h .n) (drop (h .n) zs)) o
+      ∙ ap (drop (h .n)) (drop-at (bits (fair-rents h)) (drop (h .n) entry) (h .n) l) ∙ drop-drop (h .n) (h .n) entry ∙ ap (λ (k : ℕ). drop k entry) two in
       ea ∙ (λ j. take (en j) once ++ (bits (cents-of (en j) (et j) (held (en j) once)) ++ drop (en j + en j) once))
       ∙ (λ j. t j ++ (bits (cents-of (h .n) (h .rent) (u j)) ++ v j))
 

@@ -7,7 +7,7 @@ use lib.Dec.{ltb}
 use lib.IntN.{ℤ}
 use lib.ListN.{length, drop, replicate}
 use Rattle.rooms.specs.House.{House, joint}
-use Rattle.rooms.specs.Format.{Allowed, Reading, read, house-of}
+use Rattle.rooms.specs.Format.{Allowed, Reading, read, house-of, most-people}
 use Rattle.rooms.specs.Format.Reading.{taken, refused}
 use Rattle.rooms.specs.Promise.{Best-sharing, Fairest}
 use Rattle.rooms.specs.Rows.{signed}
@@ -80,6 +80,7 @@ pub record Shares (group rooms rents work sheet rooms′ rents′ work′ sheet�
   pub cleaned : work′ ≡ replicate (work-for (house-of group .n)) 0 ++ drop (work-for (house-of group .n)) work
   pub written : sheet′ ≡ sheet-bytes (house-of group .n) (sheet-for (house-of group)) ++ drop (sheet-length (house-of group .n)) sheet
   pub count : people ≡ house-of group .n
+  pub few : people ≤ most-people
   pub together : joint-worth ≡ joint (house-of group) (sharing-of (house-of group))
   pub poorest : least ≡ spare (house-of group) (sharing-of (house-of group)) (signed (lengths-of (house-of group)))
   pub looked : looks ≡ looks-of (house-of group)

@@ -13,4 +13,5 @@ pub mod write;
 
 pub use checker::check;
 pub use sharing::share;
+pub use sharing::sheet_len;
 pub use verdict::Verdict;

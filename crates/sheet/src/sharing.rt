@@ -14,6 +14,7 @@ ghost use Rattle.rents.specs.Answer.{Measured, bits};
 ghost use Rattle.rents.specs.Rents.{spare};
 ghost use Rattle.sheet.specs.Format.{sheet-bytes, sheet-length};
 ghost use Rattle.sheet.specs.Share.{lengths-of, priors-of, fair-rents, fair-cents, sheet-for, lent-enough, Shares, Refuses, Always-fair};
+use super::write::write_sheet;
 use assignment::Assignment;
 use assignment::assign;
 use assignment::work_len;
@@ -25,7 +26,6 @@ use rents::fairest_rents;
 use rooms::Group;
 use rooms::Refusal;
 use rooms::group::MOST_PEOPLE;
-use super::write::write_sheet;
 
 // What is answered of a share: how many people, the joint worth, n × what the one who has least gains, and the looks that were taken.
 #[derive(Clone, Copy)]
@@ -34,6 +34,14 @@ pub struct Shared {
     pub joint: i64,
     pub least: i64,
     pub looks: u64,
+}
+
+// How long the sheet of n people is.
+pub fn sheet_len(n: usize) -> usize
+    requires { ⌜ n ≤ most-people ⌝ }
+    ensures { λ r. ⌜ r ≡ sheet-length n ⌝ }
+{
+    42 * n
 }
 
 // Shares a house. In `rooms` everybody's room; in `rents` n × the rent of each room and then its cents, as the bits of signed numbers; in `sheet` the
@@ -47,9 +55,9 @@ pub fn share(
 ) -> Result<Shared, Refusal>
     ensures { λ r. ⌜ Cases r
         (λ s. Shares (now (group .entry)) (now (rooms .entry)) (now (rents .entry)) (now (work .entry)) (now (sheet .entry))
-            (now (rooms .exit)) (now (rents .exit)) (now (work .exit)) (now (sheet .exit)) (s .people) (s .joint) (s .least) (s .looks))
+        (now (rooms .exit)) (now (rents .exit)) (now (work .exit)) (now (sheet .exit)) (s .people) (s .joint) (s .least) (s .looks))
         (λ e. Refuses (now (group .entry)) (now (rooms .entry)) (now (rents .entry)) (now (work .entry)) (now (sheet .entry))
-            (now (rooms .exit)) (now (rents .exit)) (now (work .exit)) (now (sheet .exit)) (number-of e) (place-of e)) ⌝ }
+        (now (rooms .exit)) (now (rents .exit)) (now (work .exit)) (now (sheet .exit)) (number-of e) (place-of e)) ⌝ }
 {
     admit(group, rooms.len(), rents.len(), work.len(), sheet.len())?;
     Ok(solve(&Group::new(group), rooms, rents, work, sheet))
@@ -76,7 +84,7 @@ fn admit(group: &[u8], rooms: usize, rents: usize, work: usize, sheet: usize) ->
     if work < work_len(n) {
         return Err(Refusal::Slice(2));
     }
-    if sheet < 42 * n {
+    if sheet < sheet_len(n) {
         return Err(Refusal::Slice(3));
     }
     Ok(())
@@ -138,7 +146,16 @@ fn solve(
     let placed = &rooms[0..n];
     let rows = rows_of(group, placed, found, work);
     let outcome = price(group, placed, rows.d, rents);
-    write_sheet(n, placed, rows.before, rows.d, rents, found.persons, found.rooms, sheet);
+    write_sheet(
+        n,
+        placed,
+        rows.before,
+        rows.d,
+        rents,
+        found.persons,
+        found.rooms,
+        sheet,
+    );
     Shared {
         people: n,
         joint: outcome.joint,

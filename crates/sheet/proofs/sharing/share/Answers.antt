@@ -1,6 +1,7 @@
-use mathlib.Core.Path.{ap, _∙_}
+use mathlib.Core.Path.{_≡_, ap, _∙_}
 use mathlib.Core.List.{List, _++_}
 use Prim.Native.Nat.{ℕ, _*_}
+use native.Mathlib.Omega.{arith}
 use lib.ListN.{drop, replicate}
 use denote.Ref.{now}
 use Rattle.rooms.specs.Format.{house-of, is-taken}
@@ -21,6 +22,8 @@ returns c =
     let g = now (c .args .group) in
     let e = taken-lent _ _ _ _ _ (house-of g) (c .in-Continue-admit .ensures tt) in
     let q = c .new .ensures in
+    let a = allowed g (passed g (ap is-taken e)) in
+    let n : c .solve .result .people ≡ house-of g .n = c .solve .ensures .people ∙ ap (λ (s : List ℕ). house-of s .n) q in
     record {
       house = e;
       placed = c .solve .ensures .rooms ∙ ap (λ (s : List ℕ). sharing-of (house-of s) ++ drop (house-of s .n) (now (c .args .rooms))) q;
@@ -33,9 +36,10 @@ returns c =
       written =
           c .solve .ensures .sheet
           ∙ ap (λ (s : List ℕ). sheet-bytes (house-of s .n) (sheet-for (house-of s)) ++ drop (sheet-length (house-of s .n)) (now (c .args .sheet))) q;
-      count = c .solve .ensures .people ∙ ap (λ (s : List ℕ). house-of s .n) q;
+      count = n;
+      few = let f = a .few in omega arith;
       together = c .solve .ensures .joint ∙ ap (λ (s : List ℕ). joint (house-of s) (sharing-of (house-of s))) q;
       poorest = c .solve .ensures .least ∙ ap (λ (s : List ℕ). spare (house-of s) (sharing-of (house-of s)) (signed (lengths-of (house-of s)))) q;
       looked = c .solve .ensures .looks ∙ ap (λ (s : List ℕ). looks-of (house-of s)) q;
-      fair = fair (house-of g) (allowed g (passed g (ap is-taken e)));
+      fair = fair (house-of g) a;
     }

@@ -1,7 +1,10 @@
 pub mod Padded
+pub mod Pieces
+pub mod Roundtrips
+pub mod Sheets
 mod Entered
 mod Shared
 mod Lengths
 mod Priced
-mod Judged
-mod Meant
+pub mod Judged
+pub mod Meant

@@ -1,6 +1,9 @@
 pub mod Format
+pub mod Roundtrip
+pub mod Write
 pub mod Judge
 pub mod Verdicts
+pub mod Texts
 pub mod Entries
 pub mod Terms
 pub mod Accepted

@@ -7,6 +7,10 @@ pub mod prices;
 pub mod rows;
 pub mod terms;
 pub mod verdict;
+pub mod write;
 
 pub use checker::check;
 pub use verdict::Verdict;
+
+#[cfg(test)]
+mod tests;

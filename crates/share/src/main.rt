@@ -64,17 +64,17 @@ fn write_whole(rt: &LibcRuntime, path: &str, bytes: &[u8]) -> io::Result<()> {
     }
 }
 
-// Tells the share of a group, and writes its sheet where a file is named. Whether the group was taken.
-fn answer(rt: &LibcRuntime, group: &[u8], sheet_path: &str) -> io::Result<bool> {
+// Tells the share of a group, and writes its sheet where a file is named. Whether all went well.
+fn answer(rt: &LibcRuntime, group: &[u8], sheet_path: Option<String>) -> io::Result<bool> {
     let mut rooms = [0; MOST_PEOPLE];
     let mut rents = [0; RENTS];
     let mut work = [0; WORK];
     let mut sheet = [0; SHEET];
     match share(group, &mut rooms, &mut rents, &mut work, &mut sheet) {
         Ok(shared) => {
-            if sheet_path != "" {
-                if let Err(e) = write_whole(rt, sheet_path, &sheet[0..sheet_len(shared.people)]) {
-                    eprintln!(rt, "share: cannot write {sheet_path}: {e}")?;
+            if let Some(path) = sheet_path {
+                let bytes = &sheet[0..sheet_len(shared.people)];
+                if !written(rt, path.as_str(), bytes)? {
                     return Ok(false);
                 }
             }
@@ -83,6 +83,17 @@ fn answer(rt: &LibcRuntime, group: &[u8], sheet_path: &str) -> io::Result<bool> 
         }
         Err(e) => {
             println!(rt, "{e}")?;
+            Ok(false)
+        }
+    }
+}
+
+// Whether the file could be written; else a line on standard error.
+fn written(rt: &LibcRuntime, path: &str, bytes: &[u8]) -> io::Result<bool> {
+    match write_whole(rt, path, bytes) {
+        Ok(()) => Ok(true),
+        Err(e) => {
+            eprintln!(rt, "share: cannot write {path}: {e}")?;
             Ok(false)
         }
     }
@@ -108,27 +119,24 @@ fn tell(rt: &LibcRuntime, shared: &Shared, rooms: &[u32], rents: &[u64]) -> io::
 fn run(rt: &LibcRuntime) -> io::Result<bool> {
     let mut args = env::args(rt)?;
     let _ = args.next();
-    let (first, second, third) = (args.next(), args.next(), args.next());
-    if third.is_some() {
-        eprintln!(rt, "usage: share [GROUP [SHEET]]")?;
-        return Ok(false);
-    }
-    let group_path = match &first {
-        Some(path) => path.as_str(),
-        None => "-",
+    let Some(first) = args.next() else {
+        let group = read_group(rt, "-")?;
+        return answer(rt, group.as_slice(), None);
     };
-    if group_path == "--help" {
+    if first.as_str() == "--help" {
         help(rt)?;
         return Ok(true);
     }
-    let sheet_path = match &second {
-        Some(path) => path.as_str(),
-        None => "",
-    };
-    match read_group(rt, group_path) {
-        Ok(group) => answer(rt, group.as_slice(), sheet_path),
+    let second = args.next();
+    if args.next().is_some() {
+        eprintln!(rt, "usage: share [GROUP [SHEET]]")?;
+        return Ok(false);
+    }
+    match read_group(rt, first.as_str()) {
+        Ok(group) => answer(rt, group.as_slice(), second),
         Err(e) => {
-            eprintln!(rt, "share: cannot read {group_path}: {e}")?;
+            let path = first.as_str();
+            eprintln!(rt, "share: cannot read {path}: {e}")?;
             Ok(false)
         }
     }

@@ -3,6 +3,7 @@ pub mod Write
 pub mod Roundtrip
 pub mod Judge
 pub mod Verdicts
+pub mod Texts
 pub mod Accepted
 pub mod Entries
 pub mod Terms

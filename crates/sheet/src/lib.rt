@@ -15,3 +15,6 @@ pub use checker::check;
 pub use sharing::share;
 pub use sharing::sheet_len;
 pub use verdict::Verdict;
+
+#[cfg(test)]
+mod tests;

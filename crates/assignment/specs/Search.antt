@@ -27,7 +27,7 @@ offers W n u v i d = list-of (offer-of W (at u) (at v) i d) n
 abbrev pub with-row : ℕ → ℕ → (rows row : List ℕ) → List ℕ
 with-row n i rows row = take (i * n) rows ++ (row ++ drop (i * n + n) rows)
 
--- The distances after a row of offers b: an offer is taken where it is lower. Where it is as low the earlier one stays.
+-- The distances after a row of offers, which were b before: an offer is taken where it is lower. Where it is as low the earlier one stays.
 abbrev pub nearer : ℕ → (row b : List ℕ) → List ℕ
 nearer n row b = list-of (λ r. cond (ltb (at row r) (at b r)) (at row r) (at b r)) n
 

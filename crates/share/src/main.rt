@@ -55,13 +55,18 @@ fn read_group(rt: &LibcRuntime, path: &str) -> io::Result<Vec<u8>> {
 // Writes a file whole or not at all: beside its place first, and then it takes the name.
 fn write_whole(rt: &LibcRuntime, path: &str, bytes: &[u8]) -> io::Result<()> {
     let beside = format!(rt.alloc(), "{path}.part")?;
-    match fs::write(rt, beside.as_str(), bytes) {
-        Ok(()) => fs::rename(rt, beside.as_str(), path),
+    match put_in_place(rt, beside.as_str(), path, bytes) {
+        Ok(()) => Ok(()),
         Err(e) => {
             let _ = fs::remove_file(rt, beside.as_str());
             Err(e)
         }
     }
+}
+
+fn put_in_place(rt: &LibcRuntime, beside: &str, path: &str, bytes: &[u8]) -> io::Result<()> {
+    fs::write(rt, beside, bytes)?;
+    fs::rename(rt, beside, path)
 }
 
 // Tells the share of a group, and writes its sheet where a file is named. Whether all went well.

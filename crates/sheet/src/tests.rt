@@ -1,6 +1,9 @@
 // Right sheets, and damaged ones with their faults.
 use super::check;
+use super::share;
+use super::sharing::Shared;
 use super::verdict::VerdictDisplay;
+use rooms::Refusal;
 use std::test::Fail;
 use std::test::Note;
 use std::test::check_eq;
@@ -159,4 +162,51 @@ fn right_sheets(rt: LibcRuntime) -> Result<(), Fail> {
     check_eq(text.as_str(), "accepted")?;
     let text = format!(rt.alloc(), "{}", check(GROUP, EQUAL_SHEET))?;
     check_eq(text.as_str(), "refused 8 at 32")
+}
+
+// Which slice is too short; 9 where all are long enough.
+fn too_short(answer: Result<Shared, Refusal>) -> usize {
+    match answer {
+        Ok(_) => 9,
+        Err(e) => e.place(),
+    }
+}
+
+// Each slice one too short, several at once, and what a refusal and a share leave in longer ones.
+#[test]
+fn lent_slices() -> Result<(), Fail> {
+    let (mut rooms, mut rents, mut work, mut sheet) = ([9; 3], [9; 5], [9; 19], [9; 85]);
+    let g = WORKED_GROUP;
+    check_eq(
+        too_short(share(g, &mut rooms[0..1], &mut rents, &mut work, &mut sheet)),
+        0,
+    )?;
+    check_eq(
+        too_short(share(g, &mut rooms, &mut rents[0..3], &mut work, &mut sheet)),
+        1,
+    )?;
+    check_eq(
+        too_short(share(g, &mut rooms, &mut rents, &mut work[0..17], &mut sheet)),
+        2,
+    )?;
+    check_eq(
+        too_short(share(g, &mut rooms, &mut rents, &mut work, &mut sheet[0..83])),
+        3,
+    )?;
+    check_eq(
+        too_short(share(g, &mut rooms, &mut rents[0..0], &mut work[0..0], &mut sheet)),
+        1,
+    )?;
+    check_eq(rooms, [9; 3])?;
+    check_eq(rents, [9; 5])?;
+    check_eq(work, [9; 19])?;
+    check_eq(sheet, [9; 85])?;
+    check_eq(
+        too_short(share(g, &mut rooms, &mut rents, &mut work, &mut sheet)),
+        9,
+    )?;
+    check_eq(rooms, [1, 0, 9])?;
+    check_eq(rents, [110, 90, 55, 45, 9])?;
+    check_eq([work[0], work[17], work[18]], [0, 0, 9])?;
+    check_eq([sheet[0], sheet[20], sheet[83], sheet[84]], [1, 110, 0, 9])
 }

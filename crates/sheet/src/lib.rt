@@ -1,11 +1,11 @@
 // The sheet that shows a share to be the fairest: writing one, checking one, and the two public calls, share and check.
 pub mod checker;
 pub mod columns;
-pub mod entries;
-pub mod faults;
-pub mod prices;
-pub mod rows;
-pub mod terms;
+mod entries;
+mod faults;
+mod prices;
+mod rows;
+mod terms;
 pub mod verdict;
 pub mod write;
 

@@ -70,6 +70,8 @@ module _ (h : House) (s : Sheet) where
   rents-right : Clean h s → (r : ℕ) → r < h .n → rent-fault h (s .claim) r ≡ false
   rents-right p r l = or-parts _ _ (p .prices r l) .0
 
+  -- Each test that finds nothing anywhere shows its condition: the rooms are shared, so the numbers certify them; the lengths come from persons before
+  -- who end, since nobody stands on a circle; and no rent or cents differ.
   pub clean-shown : Whole h (s .claim) → Clean h s → Shown h (s .claim) × Right-cents h s
   clean-shown w p =
       let c = s .claim in
@@ -154,6 +156,7 @@ module _ (h : House) (s : Sheet) where
   differs-true : (a b : ℤ) → differs a b ≡ true → a ≡ b → ⊥
   differs-true a b t e = both-ways _ (false-differs a b e) t
 
+  -- The test that is true at the place says what is at fault there; and where its condition held, that test would be false everywhere.
   refused-view : (k p : ℕ) → Whole h (s .claim) → (j : Judgement) → View h s j → j ≡ faulty (k, p) → Refused-for h s k p
   refused-view k p w j (at-room i l t d) e =
       rooms (apart j k 7 p i e d) (subst (λ (z : ℕ). Without-room h (s .claim) z) (same-place j 7 k i p d e) (without i l t))
@@ -239,6 +242,8 @@ someone s h e =
     count (taken h) = h .n
     count (refused at) = 0
 
+-- An accepted sheet was read with its group, is of the right length and passed all tests. Its rents are those of each room's tenant, so the list of
+-- them is the one made from the rooms and rows, and its cents are those of that list.
 pub accepted-fair : Accepted-fair
 accepted-fair group sheet e = by (read group) refl
   where

@@ -51,6 +51,8 @@ module _ (h : House) (e : Entries) (few : h .n ≤ 24) where
         or-right (not (ltb (room-of (claimed h e .room) i) (h .n))) (some (λ k. eqb (room-of (claimed h e .room) k) (room-of (claimed h e .room) i)) i)
         (rw (room-read h e i l) (sym (m .each (getD (e .room) i 0) o) ∙ t))
 
+    -- Person i's room is one, and is not marked, so nobody before has it. Marked now, it is somebody's among the first i + 1; and any other room is
+    -- somebody's among them just where it was among the first i.
     pub marked-more : getD (e .room) i 0 < h .n → getD marks (getD (e .room) i 0) false ≡ false → Marked h e (i + 1) (set marks (getD (e .room) i 0) true)
     marked-more o f =
         let r = getD (e .room) i 0 in

@@ -43,6 +43,7 @@ pub record Accepted-means (group sheet : List ℕ) : Type 0 where
   pub rents : sheet-of (house .n) sheet .claim .rents ≡ rents-of house (sheet-of (house .n) sheet .claim .room) (sheet-of (house .n) sheet .claim .d)
   pub cents : sheet-of (house .n) sheet .cents ≡ cents-of (house .n) (house .rent) (sheet-of (house .n) sheet .claim .rents)
 
+-- It holds of what is accepted; and whatever is shown with the right cents is accepted.
 abbrev pub Accepted-fair : Type 0
 Accepted-fair = (group sheet : List ℕ) → judge group sheet ≡ accepted → Accepted-means group sheet
 

@@ -1,13 +1,13 @@
 // The sheet that shows a share to be the fairest: writing one, checking one, and the two public calls, share and check.
 pub mod checker;
 pub mod columns;
-pub mod entries;
-pub mod faults;
-pub mod prices;
+mod entries;
+mod faults;
+mod prices;
 pub mod report;
-pub mod rows;
+mod rows;
 pub mod sharing;
-pub mod terms;
+mod terms;
 pub mod verdict;
 pub mod write;
 

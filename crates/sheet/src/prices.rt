@@ -63,6 +63,7 @@ fn tenants(group: &Group, entries: &Entries) -> [u8; MOST_PEOPLE]
     tenant
 }
 
+// What all rents and cents are reckoned from: one surplus, and one division.
 pub fn reckon(group: &Group, entries: &Entries) -> Terms
     requires { ⌜ Housed (house-of (now (now group .bytes))) (claimed (house-of (now (now group .bytes))) (now entries) .room) ⌝ }
     ensures { λ t. ⌜ Reckoned (house-of (now (now (group .entry) .bytes))) (claimed (house-of (now (now (group .entry) .bytes))) (now (entries .entry))) t ⌝ }

@@ -1,7 +1,6 @@
 // Right sheets, and damaged ones with their faults.
 use super::check;
 use super::share;
-use super::sharing::Shared;
 use super::verdict::VerdictDisplay;
 use rooms::Refusal;
 use std::test::Fail;
@@ -164,49 +163,47 @@ fn right_sheets(rt: LibcRuntime) -> Result<(), Fail> {
     check_eq(text.as_str(), "refused 8 at 32")
 }
 
-// Which slice is too short; 9 where all are long enough.
-fn too_short(answer: Result<Shared, Refusal>) -> usize {
-    match answer {
-        Ok(_) => 9,
-        Err(e) => e.place(),
+// Which slice share says is too short, where slices of these lengths are lent and none has changed; 9 otherwise.
+fn too_short(r: usize, q: usize, w: usize, s: usize) -> usize {
+    let (mut rooms, mut rents, mut work, mut sheet) = ([9; 3], [9; 5], [9; 19], [9; 85]);
+    if r > 3 || q > 5 || w > 19 || s > 85 {
+        return 9;
+    }
+    match share(
+        WORKED_GROUP,
+        &mut rooms[0..r],
+        &mut rents[0..q],
+        &mut work[0..w],
+        &mut sheet[0..s],
+    ) {
+        Err(Refusal::Slice(which))
+            if rooms == [9; 3] && rents == [9; 5] && work == [9; 19] && sheet == [9; 85] => which,
+        _ => 9,
     }
 }
 
-// Each slice one too short, several at once, and what a refusal and a share leave in longer ones.
+// Each slice one too short, and several at once: the first is named, and a refusal changes nothing.
 #[test]
-fn lent_slices() -> Result<(), Fail> {
+fn short_slices() -> Result<(), Fail> {
+    check_eq(too_short(1, 4, 18, 84), 0)?;
+    check_eq(too_short(2, 3, 18, 84), 1)?;
+    check_eq(too_short(2, 4, 17, 84), 2)?;
+    check_eq(too_short(2, 4, 18, 83), 3)?;
+    check_eq(too_short(2, 0, 0, 84), 1)
+}
+
+// What a share leaves in longer slices.
+#[test]
+fn longer_slices() -> Result<(), Fail> {
     let (mut rooms, mut rents, mut work, mut sheet) = ([9; 3], [9; 5], [9; 19], [9; 85]);
-    let g = WORKED_GROUP;
-    check_eq(
-        too_short(share(g, &mut rooms[0..1], &mut rents, &mut work, &mut sheet)),
-        0,
-    )?;
-    check_eq(
-        too_short(share(g, &mut rooms, &mut rents[0..3], &mut work, &mut sheet)),
-        1,
-    )?;
-    check_eq(
-        too_short(share(g, &mut rooms, &mut rents, &mut work[0..17], &mut sheet)),
-        2,
-    )?;
-    check_eq(
-        too_short(share(g, &mut rooms, &mut rents, &mut work, &mut sheet[0..83])),
-        3,
-    )?;
-    check_eq(
-        too_short(share(g, &mut rooms, &mut rents[0..0], &mut work[0..0], &mut sheet)),
-        1,
-    )?;
-    check_eq(rooms, [9; 3])?;
-    check_eq(rents, [9; 5])?;
-    check_eq(work, [9; 19])?;
-    check_eq(sheet, [9; 85])?;
-    check_eq(
-        too_short(share(g, &mut rooms, &mut rents, &mut work, &mut sheet)),
-        9,
-    )?;
-    check_eq(rooms, [1, 0, 9])?;
-    check_eq(rents, [110, 90, 55, 45, 9])?;
-    check_eq([work[0], work[17], work[18]], [0, 0, 9])?;
-    check_eq([sheet[0], sheet[20], sheet[83], sheet[84]], [1, 110, 0, 9])
+    match share(WORKED_GROUP, &mut rooms, &mut rents, &mut work, &mut sheet) {
+        Ok(shared) => {
+            check_eq(shared.looks, 6)?;
+            check_eq(rooms, [1, 0, 9])?;
+            check_eq(rents, [110, 90, 55, 45, 9])?;
+            check_eq([work[0], work[17], work[18]], [0, 0, 9])?;
+            check_eq([sheet[0], sheet[20], sheet[83], sheet[84]], [1, 110, 0, 9])
+        }
+        Err(_) => Err(Fail::new("refused")),
+    }
 }

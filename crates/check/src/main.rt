@@ -42,21 +42,28 @@ fn judge(rt: &LibcRuntime, group: &str, sheet: &str) -> io::Result<bool> {
     Ok(matches!(verdict, Verdict::Accepted))
 }
 
+fn usage(rt: &LibcRuntime) -> io::Result<bool> {
+    eprintln!(rt, "usage: check GROUP SHEET")?;
+    Ok(false)
+}
+
 fn run(rt: &LibcRuntime) -> io::Result<bool> {
     let mut args = env::args(rt)?;
     let _ = args.next();
-    let (first, second, third) = (args.next(), args.next(), args.next());
-    match (first, second, third) {
-        (Some(group), Some(sheet), None) => judge(rt, group.as_str(), sheet.as_str()),
-        (Some(word), None, None) if word.as_str() == "--help" => {
-            help(rt)?;
-            Ok(true)
-        }
-        _ => {
-            eprintln!(rt, "usage: check GROUP SHEET")?;
-            Ok(false)
-        }
+    let Some(group) = args.next() else {
+        return usage(rt);
+    };
+    if group.as_str() == "--help" {
+        help(rt)?;
+        return Ok(true);
     }
+    let Some(sheet) = args.next() else {
+        return usage(rt);
+    };
+    if args.next().is_some() {
+        return usage(rt);
+    }
+    judge(rt, group.as_str(), sheet.as_str())
 }
 
 fn main(rt: LibcRuntime) -> Result<(), ()> {

@@ -1,7 +1,7 @@
 -- What the tests of a claim say of the entries that stand in arrays.
-use mathlib.Core.Path.{_≡_, refl, ap, sym, _∙_}
-use mathlib.Core.Bool.{Bool, true, false, not, _&&_, _||_}
-use mathlib.Core.Logic.{_⊎_, inl, inr}
+use mathlib.Core.Path.{_≡_, ap, sym, _∙_}
+use mathlib.Core.Bool.{not, _&&_, _||_}
+use mathlib.Core.Logic.{inl, inr}
 use mathlib.Core.List.{List, _++_, map}
 use Prim.Native.Nat.{ℕ, _+_, _-_, _*_, _<_}
 use lib.Dec.{eqb}
@@ -22,7 +22,7 @@ use Rattle.rents.specs.Faults.{differs, number-fault}
 use Rattle.rents.proofs.Faults.{differs-false, false-differs}
 use Rattle.sheet.specs.declared.entries.Entries.{Entries}
 use Rattle.sheet.specs.Entries.{claimed, entered}
-use Rattle.sheet.specs.Format.{Sheet, byte-column, column, sheet-of, signed-at}
+use Rattle.sheet.specs.Format.{byte-column, column, sheet-of, signed-at}
 
 -- The front of a column that has nothing past its n entries.
 front : {X : Type 0} (f : ℕ → X) (z : X) (n : ℕ) (xs : List X) → xs ≡ map f (counting 0 n) ++ replicate (most-people - n) z → take n xs ≡ map f (counting 0 n)

@@ -1,19 +1,17 @@
 -- What the tests of the longest rows say of the entries that stand in arrays.
 use mathlib.Core.Path.{_≡_, refl, sym, ap, _∙_}
-use mathlib.Core.Bool.{Bool, true, false, cond, not, _&&_, _||_}
+use mathlib.Core.Bool.{true, false}
 use mathlib.Core.List.{List}
 use Prim.Native.Nat.{ℕ, zero, suc, _-_, _≤_, _<_}
 use native.Mathlib.Numerals.{sub-one}
 use native.Mathlib.Omega.{arith}
-use lib.Dec.{eqb, ltb}
 use lib.IntN.{ℤ, pos, _+ℤ_, _-ℤ_}
 use lib.ListN.{length, getD, take}
-use lib.Signed.{_≤ℤ_, _<ℤ_, ltZ}
+use lib.Signed.{ltZ}
 use Rattle.std.proofs.shelf.Lists.{getD-default, getD-take}
-use Rattle.std.proofs.shelf.Signed.{ints}
 use Rattle.std.proofs.shelf.Tests.{and-left, and-from, eq-eqb, le-ltb, ne-eqb, lt-ltb, not-from-false, not-from-true, or-left, or-right}
 use Rattle.rooms.specs.Before.{leads-back, nobody, prior}
-use Rattle.rooms.specs.House.{House, room-of, value, worth-at}
+use Rattle.rooms.specs.House.{House, value, worth-at}
 use Rattle.rooms.specs.Rows.{number, way}
 use Rattle.rents.specs.Shown.{Claim}
 use Rattle.rents.specs.Faults.{differs, length-fault, way-fault}

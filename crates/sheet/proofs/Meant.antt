@@ -1,29 +1,28 @@
 -- An accepted sheet is shown with the right cents, one that is so is accepted, and a refusal names what is false.
 use mathlib.Core.Path.{_≡_, refl, sym, ap, subst, _∙_}
-use mathlib.Core.Logic.{_⊎_, inl, inr}
-use mathlib.Core.Bool.{Bool, true, false, cond, not, _&&_, _||_}
+use mathlib.Core.Logic.{inl, inr}
+use mathlib.Core.Bool.{Bool, true, false, cond, not}
 use mathlib.Core.List.{List}
-use Prim.Native.Nat.{ℕ, _+_, _*_, _≤_, _<_}
+use Prim.Native.Nat.{ℕ, _+_, _*_, _<_}
 use native.Mathlib.Omega.{arith}
 use lib.Dec.{eqb, ltb}
 use lib.IntN.{ℤ, pos, _+ℤ_}
 use lib.ListN.{length, getD}
-use lib.Signed.{_≤ℤ_, _<ℤ_, ltZ}
-use Rattle.std.proofs.shelf.Counted.{getD-map-counting, length-map-counting}
+use lib.Signed.{_<ℤ_, ltZ}
+use Rattle.std.proofs.shelf.Counted.{length-map-counting}
 use Rattle.std.proofs.shelf.Lists.{ext-getD}
 use Rattle.std.proofs.shelf.Signed.{ints}
-use Rattle.std.proofs.shelf.Tests.{and-parts, both-ways, cases-bool, cases-eq, eq-eqb, eqb-false, eqb-true, le-ltb, ltb-false, ltb-true, ne-eqb, not-true, or-cases, or-from, or-parts}
-use Rattle.rooms.specs.Before.{Comes, Rows-shown, on-circle}
+use Rattle.std.proofs.shelf.Tests.{and-parts, both-ways, cases-bool, cases-eq, eq-eqb, eqb-true, ltb-false, ltb-true, ne-eqb, not-true, or-cases, or-parts}
 use Rattle.rooms.specs.First.{first, some}
-use Rattle.rooms.specs.Format.{Reading, house-of, is-taken, people, read}
+use Rattle.rooms.specs.Format.{Reading, house-of, is-taken, read}
 use Rattle.rooms.specs.Format.Reading.{taken, refused}
-use Rattle.rooms.specs.House.{House, Housed, rent-of, room-of, value}
-use Rattle.rooms.specs.Rows.{Certified, number, way}
+use Rattle.rooms.specs.House.{House, rent-of, room-of}
+use Rattle.rooms.specs.Rows.{number, way}
 use Rattle.rooms.proofs.First.{first-at}
 use Rattle.rooms.proofs.Taken.{passed, people-is, takes}
-use Rattle.rents.specs.Rents.{Rents, due, rents-of, whose}
-use Rattle.rents.specs.Shown.{Claim, Shown, Whole}
-use Rattle.rents.specs.Faults.{differs, length-fault, number-fault, rent-fault, room-fault, way-fault}
+use Rattle.rents.specs.Rents.{due, rents-of, whose}
+use Rattle.rents.specs.Shown.{Shown, Whole}
+use Rattle.rents.specs.Faults.{differs, length-fault, number-fault, rent-fault, room-fault}
 use Rattle.rents.proofs.Faults.{comes-from, differs-false, ends-from, false-differs, false-less, less-false, low-from, no-length-fault, no-number-fault, no-rent-fault, no-room-fault, numbers-show, rents-from, rooms-shared}
 use Rattle.rents.proofs.Shown.{shown-fairest}
 use Rattle.cents.specs.Cents.{cents-of}
@@ -31,8 +30,8 @@ use Rattle.sheet.specs.Accepted.{Accepted-fair, Accepted-means, Accepted-shown
 use Rattle.sheet.specs.Accepted.Refused-for.{cents, numbers, rents, rooms, rows, ways}
 use Rattle.sheet.specs.declared.entries.Entries.{Entries}
 use Rattle.sheet.specs.Entries.{claimed, entered}
-use Rattle.sheet.specs.Format.{Sheet, byte-column, column, sheet-length, sheet-of, signed-at}
-use Rattle.sheet.specs.Judge.{Judgement, cents-fault, judge, judge-read, judge-sheet, place, price-fault}
+use Rattle.sheet.specs.Format.{Sheet, sheet-length, sheet-of, signed-at}
+use Rattle.sheet.specs.Judge.{Judgement, cents-fault, judge, judge-read, judge-sheet, place}
 use Rattle.sheet.specs.Judge.Judgement.{accepted, faulty}
 use Rattle.sheet.proofs.Priced.{cents-long, rent-at}
 use Rattle.sheet.proofs.Judged.{Clean, View, view}

@@ -1,10 +1,9 @@
 -- The rents and cents of a claim, reckoned from one surplus.
-use mathlib.Core.Path.{_≡_, refl, sym, ap, _∙_}
-use mathlib.Core.Bool.{Bool, true, false, cond}
+use mathlib.Core.Path.{_≡_, sym, ap, _∙_}
+use mathlib.Core.Bool.{cond}
 use mathlib.Core.List.{List}
 use Prim.Native.Nat.{ℕ, _+_, _≤_, _<_}
 use native.Mathlib.Omega.{arith}
-use lib.Dec.{eqb}
 use lib.IntN.{ℤ, pos, negℤ, _+ℤ_, _-ℤ_, _*ℤ_}
 use lib.ListN.{length, getD, set}
 use lib.Signed.{ltZ}
@@ -12,7 +11,8 @@ use borrow.Author.Count.{below-more}
 use Rattle.std.proofs.shelf.Counted.{getD-map-counting, length-map-counting}
 use Rattle.std.proofs.shelf.Lists.{getD-set-other, getD-set-same}
 use Rattle.std.proofs.shelf.Signed.{ints}
-use Rattle.rooms.specs.House.{House, Housed, joint, rent-of, room-of, sum, value, worth-at}
+use Rattle.rooms.specs.Format.{most-people}
+use Rattle.rooms.specs.House.{House, Housed, rent-of, room-of, sum, value, worth-at}
 use Rattle.rooms.specs.Rows.{number}
 use Rattle.rooms.proofs.Sharing.{holder, same-sum}
 use Rattle.rooms.proofs.Sum.{sum-add, sum-const, sum-same, sum-sub}
@@ -40,7 +40,7 @@ unfolding value
 own-is h e i w x l a b = rw (room-read h e i l, d-read h e i l, a, b)
 
 -- Person i stands at their room, and those before at theirs: no two have the same.
-pub tenants-more : (h : House) (e : Entries) (i : ℕ) (t : List ℕ) → h .n ≤ 24 → Housed h (claimed h e .room) → i < h .n → length t ≡ 24 →
+pub tenants-more : (h : House) (e : Entries) (i : ℕ) (t : List ℕ) → h .n ≤ most-people → Housed h (claimed h e .room) → i < h .n → length t ≡ most-people →
     ((k : ℕ) → k < i → getD t (room-of (claimed h e .room) k) 0 ≡ k) →
     (k : ℕ) → k < i + 1 → getD (set t (getD (e .room) i 0) i) (room-of (claimed h e .room) k) 0 ≡ k
 tenants-more h e i t few s l w f =

@@ -1,17 +1,18 @@
 -- The first person who has no room or an earlier person's, found with a mark on each room that is taken.
 use mathlib.Core.Path.{_≡_, refl, sym, ap, _∙_}
 use mathlib.Core.Logic.{_⊎_, inl, inr}
-use mathlib.Core.Bool.{Bool, true, false, not, _||_}
+use mathlib.Core.Bool.{Bool, true, false, not}
 use mathlib.Core.List.{List}
 use Prim.Native.Nat.{ℕ, suc, _+_, _≤_, _<_}
 use native.Mathlib.Numerals.{add-one}
 use native.Mathlib.Omega.{arith}
 use borrow.Author.Count.{below-more}
 use lib.Dec.{eqb, ltb}
-use lib.ListN.{length, getD, set, replicate}
-use Rattle.std.proofs.shelf.Lists.{getD-replicate, getD-set-other, getD-set-same, length-set}
+use lib.ListN.{length, getD, set}
+use Rattle.std.proofs.shelf.Lists.{getD-set-other, getD-set-same, length-set}
 use Rattle.std.proofs.shelf.Tests.{both-ways, cases-eq, eq-eqb, le-ltb, lt-ltb, ne-eqb, not-from-false, not-from-true, or-from, or-left, or-right}
-use Rattle.rooms.specs.First.{first, some}
+use Rattle.rooms.specs.First.{some}
+use Rattle.rooms.specs.Format.{most-people}
 use Rattle.rooms.specs.House.{House, room-of}
 use Rattle.rooms.proofs.First.{first-more, true-some}
 use Rattle.rents.specs.Faults.{room-fault}
@@ -32,13 +33,10 @@ some-skip t n f = elim (first-more t n) [
 -- The first i people are not at fault, and the rooms marked are theirs.
 pub record Marked (h : House) (e : Entries) (i : ℕ) (marks : List Bool) : Type 0 where
   pub fine : (k : ℕ) → k < i → room-fault h (claimed h e) k ≡ false
-  pub whole : length marks ≡ 24
+  pub whole : length marks ≡ most-people
   pub each : (r : ℕ) → r < h .n → getD marks r false ≡ some (λ k. eqb (room-of (claimed h e .room) k) r) i
 
-module _ (h : House) (e : Entries) (few : h .n ≤ 24) where
-  pub marked-none : Marked h e 0 (replicate 24 false)
-  marked-none = record { fine = λ k l. absurd (omega arith); whole = refl; each = λ r l. getD-replicate 24 r false false (omega arith) }
-
+module _ (h : House) (e : Entries) (few : h .n ≤ most-people) where
   module _ (i : ℕ) (marks : List Bool) (l : i < h .n) (m : Marked h e i marks) where
     -- A room that is none, or that is marked.
     pub marked-out : h .n ≤ getD (e .room) i 0 → room-fault h (claimed h e) i ≡ true
@@ -66,7 +64,7 @@ module _ (h : House) (e : Entries) (few : h .n ≤ 24) where
           each = λ q p. rw add-one (mark q p (cases-eq q r));
         }
       where
-        whole : length marks ≡ 24 → length (set marks (getD (e .room) i 0) true) ≡ 24
+        whole : length marks ≡ most-people → length (set marks (getD (e .room) i 0) true) ≡ most-people
         whole w = length-set marks (getD (e .room) i 0) true ∙ w
 
         mark : (q : ℕ) → q < h .n → (q ≡ getD (e .room) i 0) ⊎ (q ≡ getD (e .room) i 0 → ⊥) →

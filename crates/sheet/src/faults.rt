@@ -1,19 +1,16 @@
 // The tests of a sheet: each finds the first place at which the entries are at fault.
 ghost use mathlib.Core.Path.{_≡_};
 ghost use mathlib.Core.Bool.{_&&_, _||_};
-ghost use Prim.Native.Nat.{ℕ, _<_};
+ghost use Prim.Native.Nat.{_<_};
 ghost use lib.IntN.{pos, _+ℤ_};
 ghost use lib.Signed.{ltZ};
 ghost use Rattle.rooms.specs.First.{first, some};
 ghost use Rattle.rooms.specs.Format.{house-of};
-ghost use Rattle.rooms.specs.House.{Housed};
-ghost use Rattle.rooms.specs.Rows.{number, way};
-ghost use Rattle.rents.specs.Faults.{room-fault, number-fault, length-fault, way-fault};
+ghost use Rattle.rents.specs.Faults.{room-fault, number-fault};
 ghost use Rattle.sheet.specs.Entries.{claimed};
 use super::entries::Entries;
 use rooms::Group;
 use rooms::group::MOST_PEOPLE;
-use whole::wide_of;
 use whole::wide_sum;
 
 // The first person who has no room, or an earlier person's.

@@ -1,10 +1,9 @@
 // The tests of the longest rows: each finds the first place at which the entries are at fault.
-ghost use mathlib.Core.Logic.{_⊎_};
 ghost use mathlib.Core.Path.{_≡_};
-ghost use Prim.Native.Nat.{ℕ, _<_, _≤_};
+ghost use Prim.Native.Nat.{_<_, _≤_};
 ghost use lib.IntN.{_+ℤ_};
 ghost use lib.ListN.{take};
-ghost use Rattle.rooms.specs.Before.{leads-back, nobody, on-circle, prior};
+ghost use Rattle.rooms.specs.Before.{leads-back, on-circle};
 ghost use Rattle.rooms.specs.First.{first, some};
 ghost use Rattle.rooms.specs.Format.{house-of, most-people};
 ghost use Rattle.rooms.specs.House.{Housed};

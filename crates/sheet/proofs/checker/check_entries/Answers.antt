@@ -1,7 +1,7 @@
-use Prim.Native.Nat.{_≤_, _<_}
+use Prim.Native.Nat.{_≤_}
 use native.Mathlib.Omega.{arith}
 use denote.Ref.{now}
-use mathlib.Core.Path.{_≡_, sym, _∙_}
+use mathlib.Core.Path.{sym, _∙_}
 use Rattle.rooms.specs.Before.{on-circle}
 use Rattle.rooms.specs.First.{first, some}
 use Rattle.rooms.specs.Format.{house-of}

@@ -1,10 +1,8 @@
-use mathlib.Core.Path.{_≡_, sym, ap, _∙_}
+use mathlib.Core.Path.{sym, _∙_}
 use Prim.Native.Nat.{_<_}
 use native.Mathlib.Omega.{arith}
-use borrow.Author.Count.{below-more}
 use denote.Ref.{now}
-use lib.Dec.{ltb}
-use Rattle.std.proofs.shelf.Tests.{le-ltb, lt-ltb}
+use Rattle.std.proofs.shelf.Tests.{lt-ltb}
 use Rattle.rooms.specs.First.{first}
 use Rattle.rooms.specs.Format.{house-of}
 use Rattle.rents.specs.Faults.{number-fault}

@@ -1,11 +1,11 @@
-use mathlib.Core.Path.{_≡_, sym, _∙_}
+use mathlib.Core.Path.{sym, _∙_}
 use Prim.Native.Nat.{_≤_, _<_}
 use native.Mathlib.Omega.{arith}
 use denote.Ref.{now}
 use lib.ListN.{getD}
 use Rattle.rooms.specs.Format.{house-of}
 use Rattle.rooms.proofs.First.{first-is, first-none}
-use Rattle.sheet.proofs.Shared.{marked-more, marked-none, marked-out, marked-twice}
+use Rattle.sheet.proofs.Shared.{marked-more, marked-out, marked-twice}
 use Rattle.sheet.proofs.faults.first_room.Needs as need
 
 pub returns-then-r-n : need.returns-then-r-n

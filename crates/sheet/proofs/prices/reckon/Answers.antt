@@ -1,12 +1,10 @@
-use mathlib.Core.Path.{_≡_, ap, sym, _∙_}
+use mathlib.Core.Path.{_≡_, ap, _∙_}
 use Prim.Native.Nat.{ℕ}
 use native.Mathlib.Omega.{arith}
-use denote.Ref.{now}
 use lib.IntN.{ℤ, pos, negℤ, _-ℤ_, _*ℤ_}
 use mir.Syntax.{w128}
 use mir.Val.{SFits, ofZ, toZ}
 use Rattle.std.proofs.shelf.Signed.{ints, toZ-ofZ}
-use Rattle.rooms.specs.Format.{house-of}
 use Rattle.whole.specs.Floor.{floor}
 use Rattle.sheet.proofs.prices.reckon.Needs as need
 

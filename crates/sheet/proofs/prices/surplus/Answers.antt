@@ -1,11 +1,10 @@
 use mathlib.Core.Path.{_≡_, refl, ap, _∙_}
-use Prim.Native.Nat.{ℕ, _*_, _^_, _<_}
+use Prim.Native.Nat.{_<_}
 use native.Mathlib.Numerals.{add-one}
 use native.Mathlib.Omega.{arith}
 use denote.Ref.{now}
-use lib.IntN.{ℤ}
 use Rattle.std.proofs.shelf.Signed.{ints}
-use Rattle.rooms.specs.Format.{house-of}
+use Rattle.rooms.specs.Format.{house-of, most-people}
 use Rattle.rooms.specs.House.{sum}
 use Rattle.sheet.specs.Entries.{claimed}
 use Rattle.sheet.proofs.Priced.{own-part, spare-is}
@@ -22,7 +21,7 @@ loop-i-again c =
     let w = c .own-less-total .ensures .within in
     let t = c .loop-i .inv .0 in
     let v = c .loop-i .inv .1 in
-    let l : c .loop-i .i < 24 = let few = c .count-n .ensures .allowed .few in omega arith in
+    let l : c .loop-i .i < most-people = let few = c .count-n .ensures .allowed .few in omega arith in
     rw add-one (omega (arith, ints), record { low = omega (arith, ints); high = omega (arith, ints) })
 
 pub returns : need.returns

@@ -1,10 +1,8 @@
 use mathlib.Core.Path.{_≡_}
-use Prim.Native.Nat.{ℕ, _*_, _^_}
+use Prim.Native.Nat.{_*_, _^_}
 use denote.Ref.{now}
-use lib.IntN.{_-ℤ_}
 use Rattle.rooms.specs.Format.{house-of}
-use Rattle.rooms.specs.House.{room-of, sum, value}
-use Rattle.rooms.specs.Rows.{number}
+use Rattle.rooms.specs.House.{sum}
 use Rattle.whole.specs.Bounds.{Within}
 use Rattle.sheet.specs.Entries.{claimed}
 use Rattle.sheet.proofs.Priced.{own-part}

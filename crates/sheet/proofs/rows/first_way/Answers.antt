@@ -1,4 +1,4 @@
-use mathlib.Core.Path.{_≡_, sym, ap, _∙_}
+use mathlib.Core.Path.{sym, _∙_}
 use Prim.Native.Nat.{_<_}
 use native.Mathlib.Omega.{arith}
 use borrow.Author.Count.{below-more}
@@ -8,7 +8,6 @@ use mir.Val.{SFits}
 use Rattle.std.proofs.shelf.Signed.{toZ-ofZ}
 use Rattle.rooms.specs.Format.{house-of}
 use Rattle.rooms.proofs.First.{first-is, first-none}
-use Rattle.sheet.proofs.Entered.{d-read}
 use Rattle.sheet.proofs.Lengths.{way-test}
 use Rattle.sheet.proofs.rows.first_way.Needs as need
 

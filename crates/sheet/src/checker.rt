@@ -20,10 +20,8 @@ use super::rows::first_length;
 use super::rows::first_way;
 use super::rows::first_ways;
 use super::verdict::Verdict;
+use super::write::sheet_len;
 use rooms::Group;
-
-// The bytes of a sheet for each person.
-const BYTES_EACH: usize = 42;
 
 // Whether the sheet shows the fairest share of the group's house, or the first fault.
 pub fn check(group: &[u8], sheet: &[u8]) -> Verdict
@@ -35,7 +33,7 @@ pub fn check(group: &[u8], sheet: &[u8]) -> Verdict
     }
     let house = Group::new(group);
     let n = house.count();
-    if sheet.len() != BYTES_EACH * n {
+    if sheet.len() != sheet_len(n) {
         return Verdict::Length(sheet.len());
     }
     check_entries(&house, &read_entries(sheet, n))

@@ -13,8 +13,8 @@ pub mod write;
 
 pub use checker::check;
 pub use sharing::share;
-pub use sharing::sheet_len;
 pub use verdict::Verdict;
+pub use write::sheet_len;
 
 #[cfg(test)]
 mod tests;

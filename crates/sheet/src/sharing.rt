@@ -14,6 +14,7 @@ ghost use Rattle.rents.specs.Answer.{Measured, bits};
 ghost use Rattle.rents.specs.Rents.{spare};
 ghost use Rattle.sheet.specs.Format.{sheet-bytes, sheet-length};
 ghost use Rattle.sheet.specs.Share.{lengths-of, priors-of, fair-rents, fair-cents, sheet-for, lent-enough, Shares, Refuses, Always-fair};
+use super::write::sheet_len;
 use super::write::write_sheet;
 use assignment::Assignment;
 use assignment::assign;
@@ -34,14 +35,6 @@ pub struct Shared {
     pub joint: i64,
     pub least: i64,
     pub looks: u64,
-}
-
-// How long the sheet of n people is.
-pub fn sheet_len(n: usize) -> usize
-    requires { ⌜ n ≤ most-people ⌝ }
-    ensures { λ r. ⌜ r ≡ sheet-length n ⌝ }
-{
-    42 * n
 }
 
 // Shares a house. In `rooms` everybody's room; in `rents` n × the rent of each room and then its cents, as the bits of signed numbers; in `sheet` the

@@ -14,6 +14,14 @@ ghost use Rattle.sheet.specs.Roundtrip.{Long, Reads-back, Same-bytes, Writes-b
 use rooms::group::MOST_PEOPLE;
 use whole::write_u64;
 
+// How long the sheet of n people is.
+pub fn sheet_len(n: usize) -> usize
+    requires { ⌜ n ≤ most-people ⌝ }
+    ensures { λ r. ⌜ r ≡ sheet-length n ⌝ }
+{
+    42 * n
+}
+
 // The sheet for n people, at the front of the slice: their rooms, the persons before and the lengths of the longest
 // rows; of each room n times its rent and its cents, as they stand in `rents`; and the numbers for the joint worth.
 pub fn write_sheet(

@@ -1,5 +1,7 @@
 // The best sharing of a house's rooms: who gets which, so that what the rooms are worth to all together is highest; with a number for each person and
 // each room that show it. By the Hungarian method: a round for each person, shortest ways to a free room, the numbers moved once a round.
+#![tactic(auto)]
+
 ghost use Rattle.std.specs.Prelude.{◌≡◌, ℕ, ◌+◌, ◌*◌, ◌^◌, ◌<◌, ◌≤◌, ◌++◌, length, drop, replicate};
 ghost use Rattle.rooms.specs.Format.{most_people, most_worth, house_of, Allowed};
 ghost use Rattle.assignment.specs.Search.{at};

@@ -1,5 +1,7 @@
 // Rents in whole cents: exact fractions rounded toward lower numbers, and one cent more for the rooms of the lowest
 // numbers, so that they add up to the whole rent.
+#![tactic(auto)]
+
 ghost use Rattle.std.specs.Prelude.{◌≡◌, ◌+◌, ◌^◌, ◌<◌, ◌≤◌, ◌++◌, length, take, drop, ◌+ℤ◌, slice_index};
 ghost use Rattle.std.specs.Int.{w64};
 ghost use Rattle.std.proofs.Common.{to_z};

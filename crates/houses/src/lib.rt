@@ -1,4 +1,6 @@
 // The worked houses: the definitions at work on six small houses, as theorems. Nothing is computed here; each function's contract is what is proved.
+#![tactic(auto)]
+
 ghost use Rattle.houses.specs.Table.{HousesStand};
 ghost use Rattle.houses.specs.Unfair.{Another, EqualGains, EqualRents, InTurn, WorthsAsRents};
 

@@ -1,5 +1,7 @@
 // The longest rows of ways among people: for a sharing of highest joint worth, the length of the longest row of ways that ends at each person, and
 // who stands before them in it.
+#![tactic(auto)]
+
 ghost use Rattle.std.specs.Prelude.{◌≡◌, ℕ, ◌+◌, ◌-◌, ◌*◌, ◌<◌, ◌≤◌, ◌++◌, map, length, drop, replicate};
 ghost use Rattle.std.specs.List.{range_with_len};
 ghost use Rattle.rooms.specs.Format.{most_people, most_worth, house_of};

@@ -1,5 +1,7 @@
 // The fairest rents: what they are, and that they are the fairest, in a theory with no algorithm in it; and computing them
 // in exact whole numbers from a best sharing and the lengths of its longest rows.
+#![tactic(auto)]
+
 pub mod fairest;
 pub mod theory;
 

@@ -1,4 +1,6 @@
 // The sheet that shows a share to be the fairest: writing one, checking one, and the two public calls, share and check.
+#![tactic(auto)]
+
 pub mod checker;
 pub mod columns;
 mod entries;

@@ -1,5 +1,7 @@
 // Whole numbers with bounds: i64 as u64 and as eight bytes, quotients toward lower numbers, and sums, differences and
 // products that are exact. Nothing here knows of houses.
+#![tactic(auto)]
+
 pub mod bits;
 pub mod bytes;
 pub mod exact;

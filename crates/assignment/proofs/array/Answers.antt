@@ -6,5 +6,5 @@ use Rattle.assignment.proofs.array.Goals as goal
 pub returns : goal.returns
 returns c =
     let z : length c.args.xs.now - 0 ≡ length c.args.xs.now = omega arith in
-    let e : c.copy-from-slice.new.self ≡ c.args.xs.now = search rules in
+    let e : c.copy_from_slice.new.self ≡ c.args.xs.now = search rules in
     rw (z, e) (ap (λ (x : List ℕ). c.args.xs.now ++ x) (drop-replicate (length c.args.xs.now) most_people 0))

@@ -7,9 +7,9 @@ use Rattle.assignment.proofs.solve.Goals as goal
 pub returns : goal.returns
 returns c =
     let h = house_of c.args.group.now.bytes.now in
-    let p = c.place-all-looks in
+    let p = c.place_all-looks in
     record {
-      sharing = c.write-rooms.ensures ∙ is_sharing h _ _ _ _ _ _ c.requires.people.0 p.ensures.model p.ensures.count;
+      sharing = c.write_rooms.ensures ∙ is_sharing h _ _ _ _ _ _ c.requires.people.0 p.ensures.model p.ensures.count;
       persons = c.array.ensures ∙ ap array_of (is_persons h _ _ _ _ _ _ c.requires.people.0 p.ensures.model p.ensures.count);
       prices = c.array-2.ensures ∙ ap array_of (is_prices h _ _ _ _ _ _ c.requires.people.0 p.ensures.model p.ensures.count);
       count = is_looks h _ _ _ _ _ _ c.requires.people.0 p.ensures.model p.ensures.count;

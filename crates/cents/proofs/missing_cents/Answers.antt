@@ -12,8 +12,8 @@ pub loop-r-init : goal.loop-r-init
 unfolding sum
 loop-r-init c = omega (arith, ints)
 
-pub floor-at-requires : goal.floor-at-requires
-floor-at-requires c = let e = c.requires.1 in (c.requires.0.someone, (c.requires.0.few, omega arith))
+pub floor_at-requires : goal.floor_at-requires
+floor_at-requires c = let e = c.requires.1 in (c.requires.0.someone, (c.requires.0.few, omega arith))
 
 pub sum-floors-requires : goal.sum-floors-requires
 sum-floors-requires c =
@@ -33,7 +33,7 @@ loop-r-preserved c =
     let a = c.sum-floors.ensures.value in
     let b = c.sum-floors.ensures.within in
     let e : c.loop-r.floors ≡ sum (λ r. floor_at n ps r) c.loop-r.r = sym c.loop-r.floors-is ∙ c.loop-r.invariant in
-    let g : SFits w64 c.floor_at.result = record { sfits = c.floor_at.type-inv } in
+    let g : SFits w64 c.floor_at.result = record { sfits = c.floor_at.type_inv } in
     sum_step (λ r. floor_at n ps r) c.loop-r.r c.loop-r.floors c.floor_at.result (to_z w64 (of_z w64 c.sum-floors.result)) e f (omega (arith, ints))
 
 pub difference-requires : goal.difference-requires

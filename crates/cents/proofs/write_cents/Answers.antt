@@ -12,14 +12,14 @@ use Rattle.cents.proofs.write_cents.Goals as goal
 pub loop-r-init : goal.loop-r-init
 loop-r-init c = paste_none c.args.rents.now c.args.n (bits (cents_of c.args.n c.args.rent (held c.args.n c.args.rents.now)))
 
-pub floor-at-requires : goal.floor-at-requires
-floor-at-requires c =
+pub floor_at-requires : goal.floor_at-requires
+floor_at-requires c =
     let k = c.loop-r.auto.rents in
     let e = c.requires.enough in
     (c.requires.roundable.someone, (c.requires.roundable.few, omega arith))
 
-pub in-cents-requires : goal.in-cents-requires
-in-cents-requires c =
+pub in_cents-requires : goal.in_cents-requires
+in_cents-requires c =
     let n = c.args.n in
     let xs = c.args.rents.now in
     let r = c.loop-r.r in
@@ -45,17 +45,17 @@ loop-r-preserved c =
     let l = c.loop-r-test.true in
     let long = bits_long n c.args.rent ps in
     let f : to_z w64 (of_z w64 c.floor_at.result) ≡ floor_at n ps r =
-    to_z-of_z w64 c.floor_at.result (record { sfits = c.floor_at.type-inv }) ∙ c.floor_at.ensures
+    to_z-of_z w64 c.floor_at.result (record { sfits = c.floor_at.type_inv }) ∙ c.floor_at.ensures
     ∙ floor_kept n xs c.loop-r.rents r (ap (take n) c.loop-r.invariant ∙ front_kept n xs s r (omega arith)) (omega arith) l in
-    let z : to_z w64 (of_z w64 c.missing-cents-missing.result) ≡ missing_cents n c.args.rent ps =
-    to_z-of_z w64 c.missing-cents-missing.result (record { sfits = c.missing-cents-missing.type-inv }) ∙ c.missing-cents-missing.ensures in
-    let v : c.in-cents.result ≡ floor_at n ps r +ℤ extra (missing_cents n c.args.rent ps) r =
-    c.in-cents.ensures
-    ∙ ap (λ (a : ℤ). a +ℤ extra (to_z w64 (of_z w64 c.missing-cents-missing.result)) r) f
+    let z : to_z w64 (of_z w64 c.missing_cents-missing.result) ≡ missing_cents n c.args.rent ps =
+    to_z-of_z w64 c.missing_cents-missing.result (record { sfits = c.missing_cents-missing.type_inv }) ∙ c.missing_cents-missing.ensures in
+    let v : c.in_cents.result ≡ floor_at n ps r +ℤ extra (missing_cents n c.args.rent ps) r =
+    c.in_cents.ensures
+    ∙ ap (λ (a : ℤ). a +ℤ extra (to_z w64 (of_z w64 c.missing_cents-missing.result)) r) f
     ∙ ap (λ (a : ℤ). floor_at n ps r +ℤ extra a r) z in
-    let x : c.bits-of.result ≡ get_or s r 0 =
-    c.bits-of.ensures ∙ ap (of_z w64) (to_z-of_z w64 c.in-cents.result (record { sfits = c.in-cents.type-inv }) ∙ v) ∙ sym (bits_at n c.args.rent ps r l) in
-    ap (λ ys. set ys (n + r) c.bits-of.result) c.loop-r.invariant
+    let x : c.bits_of.result ≡ get_or s r 0 =
+    c.bits_of.ensures ∙ ap (of_z w64) (to_z-of_z w64 c.in_cents.result (record { sfits = c.in_cents.type_inv }) ∙ v) ∙ sym (bits_at n c.args.rent ps r l) in
+    ap (λ ys. set ys (n + r) c.bits_of.result) c.loop-r.invariant
     ∙ ap (set (paste xs n s r) (n + r)) x
     ∙ paste_more xs n s r 0 (omega arith) (omega arith)
 

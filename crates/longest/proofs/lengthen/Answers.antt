@@ -4,7 +4,7 @@ use Rattle.longest.specs.Run.{nearest}
 use Rattle.longest.proofs.Nearest.{nearest_takes, nearest_keeps}
 use Rattle.longest.proofs.Rounds.{run_none, run_break, run_all, next_here, next_small, left_small, round_more}
 use Rattle.longest.proofs.lengthen.Goals as goal
-use Rattle.longest.proofs.lengthen.Goals.{then-is-nearer, else-is-nearer}
+use Rattle.longest.proofs.lengthen.Goals.{then-is_nearer, else-is_nearer}
 
 pub longer-init : goal.longer-init
 longer-init c = (run_none _ _ _, refl, c.requires.small)
@@ -14,13 +14,13 @@ unfolding nearest
 loop-i-init c = (omega arith, refl)
 
 pub loop-i-preserved : goal.loop-i-preserved
-loop-i-preserved c = elim c.if-is-nearer.branch [
-  | then-is-nearer w ↦ (omega (arith, w.to-is), nearest_takes _ _ _ _ _ _ _ c.loop-i.invariant.1 c.is-nearer.ensures w.if-is-nearer.true w.to-is)
-  | else-is-nearer w ↦ (omega (arith, w.to-is), nearest_keeps _ _ _ _ _ _ _ c.loop-i.invariant.1 c.is-nearer.ensures w.if-is-nearer.false w.to-is)
+loop-i-preserved c = elim c.if-is_nearer.branch [
+  | then-is_nearer w ↦ (omega (arith, w.to-is), nearest_takes _ _ _ _ _ _ _ c.loop-i.invariant.1 c.is_nearer.ensures w.if-is_nearer.true w.to-is)
+  | else-is_nearer w ↦ (omega (arith, w.to-is), nearest_keeps _ _ _ _ _ _ _ c.loop-i.invariant.1 c.is_nearer.ensures w.if-is_nearer.false w.to-is)
 ]
 
-pub offer-through-requires : goal.offer-through-requires
-offer-through-requires c =
+pub offer_through-requires : goal.offer_through-requires
+offer_through-requires c =
     let n = c.args.n in
     let l = c.longer.left in
     let o = c.longer.offer in
@@ -48,7 +48,7 @@ longer-preserved c =
     let ne = c.if-to-n.false in
     let e : c.loop-i.i ≡ c.args.n = omega arith in
     let q = rw e at c.loop-i.invariant.1 in (
-      round_more n l o k q ne _ c.longer.before c.longer.from _ _ _ _ _ c.longer.invariant.0 c.longer.invariant.1 c.longer-test.true c.offer-through.ensures,
+      round_more n l o k q ne _ c.longer.before c.longer.from _ _ _ _ _ c.longer.invariant.0 c.longer.invariant.1 c.longer-test.true c.offer_through.ensures,
       refl,
       left_small n l o k q ne most_worth (omega arith) c.longer.invariant.2,
     )

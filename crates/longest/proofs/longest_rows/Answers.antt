@@ -6,25 +6,25 @@ use Rattle.longest.specs.Promise.{work_len}
 use Rattle.longest.proofs.Outcome.{found_shown, found_longest, found_high, found_few}
 use Rattle.longest.proofs.longest_rows.Goals as goal
 
-pub slice-bounds-find-end : goal.slice-bounds-find-end
-slice-bounds-find-end c = omega (arith, c.work-len-needed.ensures ∙ ap work_len c.count-n.ensures.people, c.requires.enough)
+pub slice_bounds-find-end : goal.slice_bounds-find-end
+slice_bounds-find-end c = omega (arith, c.work_len-needed.ensures ∙ ap work_len c.count-n.ensures.people, c.requires.enough)
 
 pub find-found-requires : goal.find-found-requires
 find-found-requires c =
     let a = c.count-n.ensures.allowed in
-    let e = c.work-len-needed.ensures ∙ ap work_len c.count-n.ensures.people in
+    let e = c.work_len-needed.ensures ∙ ap work_len c.count-n.ensures.people in
     record {
       group = (c.count-n.ensures.people, (omega (arith, a.some), omega (arith, a.few)));
       solved = c.requires.solved;
-      size = length-take-le (c.work-len-needed.result - 0) c.args.work.now (omega (arith, e, c.requires.enough)) ∙ omega (arith, c.work-len-needed.ensures);
+      size = length-take-le (c.work_len-needed.result - 0) c.args.work.now (omega (arith, e, c.requires.enough)) ∙ omega (arith, c.work_len-needed.ensures);
     }
 
 pub returns : goal.returns
 returns c =
     let a = c.count-n.ensures.allowed in
     let q = c.requires.solved in
-    let e : c.work-len-needed.result ≡ work_len (house_of c.args.group.now.bytes.now).n =
-    c.work-len-needed.ensures ∙ ap work_len c.count-n.ensures.people in
+    let e : c.work_len-needed.result ≡ work_len (house_of c.args.group.now.bytes.now).n =
+    c.work_len-needed.ensures ∙ ap work_len c.count-n.ensures.people in
     let fits : (house_of c.args.group.now.bytes.now).n ≤ length c.args.persons = search (rules, a.few) in
     record {
       found = c.find-found.ensures;

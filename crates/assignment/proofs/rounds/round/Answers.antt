@@ -41,8 +41,8 @@ augment-requires c =
       );
     }
 
-pub overflow-mul-result : goal.overflow-mul-result
-overflow-mul-result c =
+pub overflow_mul-result : goal.overflow_mul-result
+overflow_mul-result c =
     let few = c.requires.people.1.0.few in
     let r = mul-le c.grow-last.result.1 c.args.n 24 24 (omega (arith, c.grow-last.ensures.here.1)) (omega arith) in
     omega arith

@@ -7,8 +7,8 @@ use Rattle.assignment.proofs.Growth.{long_list}
 use Rattle.assignment.proofs.Row.{row_end, offered, nearer_by, parents_by}
 use Rattle.assignment.proofs.search.relax.Goals as goal
 
-pub slice-bounds-row-end : goal.slice-bounds-row-end
-slice-bounds-row-end c = omega (arith, row_end c.args.i c.args.n (length c.args.rows.now) (omega arith) (omega arith))
+pub slice_bounds-row-end : goal.slice_bounds-row-end
+slice_bounds-row-end c = omega (arith, row_end c.args.i c.args.n (length c.args.rows.now) (omega arith) (omega arith))
 
 pub returns : goal.returns
 returns c =

@@ -6,8 +6,8 @@ use Rattle.assignment.specs.Search.{offers}
 use Rattle.assignment.proofs.Row.{row_end, offered, filled}
 use Rattle.assignment.proofs.search.start.Goals as goal
 
-pub slice-bounds-row-end : goal.slice-bounds-row-end
-slice-bounds-row-end c = omega (arith, row_end c.args.p c.args.n (length c.args.rows.now) (omega arith) (omega arith))
+pub slice_bounds-row-end : goal.slice_bounds-row-end
+slice_bounds-row-end c = omega (arith, row_end c.args.p c.args.n (length c.args.rows.now) (omega arith) (omega arith))
 
 pub returns : goal.returns
 returns c =
@@ -18,7 +18,7 @@ returns c =
     let es : c.fill-2.new.self ≡ replicate c.args.n 0 = search rules in
     let e : c.offer.new.row ≡ offers W c.args.n c.args.u.now c.args.v.now c.args.p 0 =
     offered W c.args.n c.args.u.now c.args.v.now _ _ c.args.p 0 _ l (omega arith) c.row-mine.ensures.each c.offer.ensures in
-    let b : c.copy-from-slice.new.self ≡ c.offer.new.row = search rules in
+    let b : c.copy_from_slice.new.self ≡ c.offer.new.row = search rules in
     record {
       row = search (rules, overwrites);
       near = b ∙ e;

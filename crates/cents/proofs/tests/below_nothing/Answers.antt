@@ -5,17 +5,17 @@ use Rattle.rents.specs.Answer.{held}
 use Rattle.cents.proofs.Trials.{roundable_by}
 use Rattle.cents.proofs.tests.below_nothing.Goals as goal
 
-pub write-cents-requires : goal.write-cents-requires
+pub write_cents-requires : goal.write_cents-requires
 unfolding sum rest
-write-cents-requires c = record { roundable = roundable_by 2 5 (held 2 (18446744073709551609 ∷ 17 ∷ 0 ∷ 0 ∷ [])) (lit< tt) (lit≤ tt) refl refl; enough = lit≤ tt }
+write_cents-requires c = record { roundable = roundable_by 2 5 (held 2 (18446744073709551609 ∷ 17 ∷ 0 ∷ 0 ∷ [])) (lit< tt) (lit≤ tt) refl refl; enough = lit≤ tt }
 
-pub write-cents-requires-2 : goal.write-cents-requires-2
+pub write_cents-requires-2 : goal.write_cents-requires-2
 unfolding sum rest
-write-cents-requires-2 c = record { roundable = roundable_by 2 0 (held 2 (18446744073709551611 ∷ 5 ∷ 0 ∷ 0 ∷ [])) (lit< tt) (lit≤ tt) refl refl; enough = lit≤ tt }
+write_cents-requires-2 c = record { roundable = roundable_by 2 0 (held 2 (18446744073709551611 ∷ 5 ∷ 0 ∷ 0 ∷ [])) (lit< tt) (lit≤ tt) refl refl; enough = lit≤ tt }
 
-pub write-cents-requires-3 : goal.write-cents-requires-3
+pub write_cents-requires-3 : goal.write_cents-requires-3
 unfolding sum rest
-write-cents-requires-3 c = record {
+write_cents-requires-3 c = record {
   roundable = roundable_by 24 27 (held 24 (set (replicate 48 29) 0 18446744073709551597)) (lit< tt) (lit≤ tt) refl refl;
   enough = lit≤ tt;
 }

@@ -17,7 +17,7 @@ pub loop-i-preserved : goal.loop-i-preserved
 unfolding each
 loop-i-preserved c =
     let z = to_z w64 (of_z w64 c.args.spare) in
-    let f : SFits w64 c.gain.result = record { sfits = c.gain.type-inv } in
+    let f : SFits w64 c.gain.result = record { sfits = c.gain.type_inv } in
     let e : to_z w64 (of_z w64 c.gain.result) ≡ each c.args.d c.args.n z c.loop-i.i =
     to_z-of_z w64 c.gain.result f ∙ c.gain.ensures ∙ ap (λ (x : ℤ). x *ℤ pos c.args.n +ℤ z) (sym (number_signed c.args.d c.loop-i.i)) in
     filled_more (each c.args.d c.args.n z) c.loop-i.i c.loop-i.gains (to_z w64 (of_z w64 c.gain.result)) (let p = c.requires.0 in omega arith) e c.loop-i.invariant

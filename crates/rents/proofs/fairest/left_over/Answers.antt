@@ -8,7 +8,7 @@ difference-requires-2 c =
     let v = c.difference.ensures.value in
     let j = c.requires.small.1 in
     let l = lengths_small c.args.d c.requires.small.0 c.args.n c.requires.people.1 in
-    let k = c.all-lengths.ensures in
+    let k = c.all_lengths.ensures in
     (record { low = omega (arith, ints); high = omega (arith, ints) }, record { low = omega (arith, ints); high = omega (arith, ints) })
 
 pub returns : goal.returns
@@ -16,7 +16,7 @@ returns c =
     let j = c.requires.small.1 in
     let v = c.difference.ensures.value in
     let w = c.difference.ensures.within in
-    let k = c.all-lengths.ensures in
+    let k = c.all_lengths.ensures in
     let u = c.difference-2.ensures.value in
     let x = c.difference-2.ensures.within in
     let r = c.rent.ensures in

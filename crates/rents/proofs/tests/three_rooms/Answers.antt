@@ -27,7 +27,7 @@ enough : (house_of bytes).n ≤ 4
 unfolding house_of
 enough = lit≤ tt
 
-pub fairest-rents-out-requires : goal.fairest-rents-out-requires
-fairest-rents-out-requires c =
+pub fairest_rents-out-requires : goal.fairest_rents-out-requires
+fairest_rents-out-requires c =
     let e = sym c.new-group.ensures in
     record { measured = subst (λ s. Measured (house_of s) rooms lengths) e measured; enough = subst (λ s. (house_of s).n ≤ 4) e enough }

@@ -7,10 +7,10 @@ use Rattle.sheet.specs.Verdicts.{meaning}
 use Rattle.sheet.proofs.Meant.{accepted_fair, claimed_whole, entered_whole, judged_length, judged_refused, judged_sheet}
 use Rattle.sheet.proofs.checker.check.Goals as goal
 
-pub check-entries-requires : goal.check-entries-requires
-check-entries-requires c =
-    claimed_whole (house_of c.new-house.result.bytes.now) c.read-entries.result c.args.sheet.now c.count-n.result c.count-n.ensures.people
-    c.read-entries.ensures
+pub check_entries-requires : goal.check_entries-requires
+check_entries-requires c =
+    claimed_whole (house_of c.new-house.result.bytes.now) c.read_entries.result c.args.sheet.now c.count-n.result c.count-n.ensures.people
+    c.read_entries.ensures
 
 pub returns-in-Err : goal.returns-in-Err
 returns-in-Err c =
@@ -19,12 +19,12 @@ returns-in-Err c =
     let j = judged_refused g s (number_of c.in-Err.refusal, place_of c.in-Err.refusal) c.in-Err.ensures in
     record { judged = j; accepted = λ e. accepted_fair g s (sym j ∙ ap meaning e) }
 
-pub returns-then-sheet-sheet-len : goal.returns-then-sheet-sheet-len
-returns-then-sheet-sheet-len c =
+pub returns-then-sheet-sheet_len : goal.returns-then-sheet-sheet_len
+returns-then-sheet-sheet_len c =
     let g = c.args.group.now in
     let s = c.args.sheet.now in
     let n : c.count-n.result ≡ (house_of g).n = c.count-n.ensures.people ∙ ap (λ (b : List ℕ). (house_of b).n) c.new-house.ensures in
-    let j = judged_length g s (house_of g) c.in-default.ensures (λ e. c.if-sheet-sheet-len.true (e ∙ ap sheet_length (sym n) ∙ sym c.sheet-len.ensures)) in
+    let j = judged_length g s (house_of g) c.in_default.ensures (λ e. c.if-sheet-sheet_len.true (e ∙ ap sheet_length (sym n) ∙ sym c.sheet_len.ensures)) in
     record { judged = j; accepted = λ e. accepted_fair g s (sym j ∙ ap meaning e) }
 
 pub returns : goal.returns
@@ -33,8 +33,8 @@ returns c =
     let s = c.args.sheet.now in
     let b = c.new-house.result.bytes.now in
     let n : c.count-n.result ≡ (house_of g).n = c.count-n.ensures.people ∙ ap (λ (b : List ℕ). (house_of b).n) c.new-house.ensures in
-    let l : length s ≡ sheet_length (house_of g).n = c.if-sheet-sheet-len.false ∙ c.sheet-len.ensures ∙ ap sheet_length n in
-    let e = entered_whole (house_of b) c.read-entries.result s c.count-n.result c.count-n.ensures.people c.read-entries.ensures in
-    let j = c.check-entries.ensures ∙ ap (judge_sheet (house_of b)) e
-    ∙ ap (λ (x : List ℕ). judge_sheet (house_of x) (sheet_of (house_of x).n s)) c.new-house.ensures ∙ judged_sheet g s (house_of g) c.in-default.ensures l in
+    let l : length s ≡ sheet_length (house_of g).n = c.if-sheet-sheet_len.false ∙ c.sheet_len.ensures ∙ ap sheet_length n in
+    let e = entered_whole (house_of b) c.read_entries.result s c.count-n.result c.count-n.ensures.people c.read_entries.ensures in
+    let j = c.check_entries.ensures ∙ ap (judge_sheet (house_of b)) e
+    ∙ ap (λ (x : List ℕ). judge_sheet (house_of x) (sheet_of (house_of x).n s)) c.new-house.ensures ∙ judged_sheet g s (house_of g) c.in_default.ensures l in
     record { judged = j; accepted = λ e. accepted_fair g s (sym j ∙ ap meaning e) }

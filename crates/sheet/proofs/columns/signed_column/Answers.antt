@@ -10,7 +10,7 @@ pub loop-k-preserved : goal.loop-k-preserved
 loop-k-preserved c =
     let k = c.loop-k.k in
     let f : ℕ → ℤ = λ k. signed_at c.args.sheet.now (c.args.at + c.args.step * k) in
-    let x : to_z w64 (of_z w64 c.read-i64.result) ≡ f k = to_z-of_z w64 c.read-i64.result (search rules) ∙ c.read-i64.ensures in
+    let x : to_z w64 (of_z w64 c.read_i64.result) ≡ f k = to_z-of_z w64 c.read_i64.result (search rules) ∙ c.read_i64.ensures in
     ap (λ (v : ℤ). set c.loop-k.numbers k v) x ∙ ap (λ (xs : List ℤ). set xs k (f k)) c.loop-k.invariant ∙ padded_more f (pos 0) most_people k (omega arith)
 
 pub returns : goal.returns

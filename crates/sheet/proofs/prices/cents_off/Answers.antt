@@ -9,8 +9,8 @@ use Rattle.sheet.specs.Entries.{claimed, entered}
 use Rattle.sheet.proofs.Priced.{cents_test, tenant_below}
 use Rattle.sheet.proofs.prices.cents_off.Goals as goal
 
-pub own-less-mine-requires : goal.own-less-mine-requires
-own-less-mine-requires c =
+pub own_less-mine-requires : goal.own_less-mine-requires
+own_less-mine-requires c =
     let h = house_of c.args.group.now.bytes.now in
     let l = c.requires.room in
     let some : 0 < h.n = omega arith in
@@ -19,25 +19,25 @@ own-less-mine-requires c =
       housed = c.requires.housed;
     }
 
-pub wide-add-down-requires : goal.wide-add-down-requires
-wide-add-down-requires c =
-    let v = c.own-less-mine.ensures.within in
+pub wide_add-down-requires : goal.wide_add-down-requires
+wide_add-down-requires c =
+    let v = c.own_less-mine.ensures.within in
     let w = c.requires.reckoned.thin in
     (record { low = omega (arith, ints); high = omega (arith, ints) }, record { low = omega (arith, ints); high = omega (arith, ints) })
 
 sum_small : (m e d : ℤ) → Within (2 ^ 64) m → Within (2 ^ 100) e → d ≡ m +ℤ e → Within (2 ^ 101) d
 sum_small m e d v w q = record { low = omega (arith, ints); high = omega (arith, ints) }
 
-pub wide-add-cents-requires : goal.wide-add-cents-requires
-wide-add-cents-requires c =
-    let x = c.cent-more.ensures.within in
-    let f : SFits w128 c.wide-add-down.result = record { sfits = c.wide-add-down.type-inv } in
-    let g : SFits w128 c.own-less-mine.result = record { sfits = c.own-less-mine.type-inv } in
+pub wide_add-cents-requires : goal.wide_add-cents-requires
+wide_add-cents-requires c =
+    let x = c.cent_more.ensures.within in
+    let f : SFits w128 c.wide_add-down.result = record { sfits = c.wide_add-down.type_inv } in
+    let g : SFits w128 c.own_less-mine.result = record { sfits = c.own_less-mine.type_inv } in
     let w = c.requires.reckoned.thin in
     let j : SFits w128 c.args.terms.now.even = omega (arith, ints) in
-    let d = sum_small c.own-less-mine.result c.args.terms.now.even c.wide-add-down.result c.own-less-mine.ensures.within w
-    (c.wide-add-down.ensures.value ∙ ap (λ (z : ℤ). z +ℤ to_z w128 (of_z w128 c.args.terms.now.even)) (to_z-of_z w128 _ g)
-    ∙ ap (λ (z : ℤ). c.own-less-mine.result +ℤ z) (to_z-of_z w128 _ j)) in
+    let d = sum_small c.own_less-mine.result c.args.terms.now.even c.wide_add-down.result c.own_less-mine.ensures.within w
+    (c.wide_add-down.ensures.value ∙ ap (λ (z : ℤ). z +ℤ to_z w128 (of_z w128 c.args.terms.now.even)) (to_z-of_z w128 _ g)
+    ∙ ap (λ (z : ℤ). c.own_less-mine.result +ℤ z) (to_z-of_z w128 _ j)) in
     (record { low = omega (arith, ints); high = omega (arith, ints) }, record { low = omega (arith, ints); high = omega (arith, ints) })
 
 pub returns : goal.returns
@@ -45,23 +45,23 @@ returns c =
     let h = house_of c.args.group.now.bytes.now in
     let e = c.args.entries.now in
     let w = c.requires.reckoned.thin in
-    let f : SFits w128 c.wide-at.result = record { sfits = c.wide-at.type-inv } in
-    let g : SFits w128 c.own-less-mine.result = record { sfits = c.own-less-mine.type-inv } in
-    let i : SFits w128 c.cent-more.result = record { sfits = c.cent-more.type-inv } in
+    let f : SFits w128 c.wide_at.result = record { sfits = c.wide_at.type_inv } in
+    let g : SFits w128 c.own_less-mine.result = record { sfits = c.own_less-mine.type_inv } in
+    let i : SFits w128 c.cent_more.result = record { sfits = c.cent_more.type_inv } in
     let j : SFits w128 c.args.terms.now.even = omega (arith, ints) in
     let k : SFits w128 c.args.terms.now.missing = search rules in
-    let d : SFits w128 c.wide-add-down.result = record { sfits = c.wide-add-down.type-inv } in
-    let t : SFits w128 c.wide-add-cents.result = record { sfits = c.wide-add-cents.type-inv } in
-    let o = to_z-of_z w128 c.own-less-mine.result g in
+    let d : SFits w128 c.wide_add-down.result = record { sfits = c.wide_add-down.type_inv } in
+    let t : SFits w128 c.wide_add-cents.result = record { sfits = c.wide_add-cents.type_inv } in
+    let o = to_z-of_z w128 c.own_less-mine.result g in
     let ev = to_z-of_z w128 c.args.terms.now.even j in
     c.differ.ensures
-    ∙ cents_test h (entered h.n e) c.requires.housed c.args.r _ _ c.own-less-mine.result c.args.terms.now.even c.args.terms.now.missing
-    c.cent-more.result c.args.terms.now.surplus _ c.requires.room
-    (to_z-of_z w128 _ f ∙ c.wide-at.ensures.value ∙ sym (get_or-take h.n e.cents c.args.r (pos 0) c.requires.room))
-    c.own-less-mine.ensures.value (c.requires.reckoned.tenant c.args.r c.requires.room) c.requires.reckoned.even c.requires.reckoned.missing
-    (c.cent-more.ensures.value ∙ ap (λ (z : ℤ). cond (lt_z (pos c.args.r) z) (pos 1) (pos 0)) (to_z-of_z w128 _ k)) c.requires.reckoned.surplus
-    (to_z-of_z w128 _ t ∙ c.wide-add-cents.ensures.value
-    ∙ ap (λ (z : ℤ). z +ℤ to_z w128 (of_z w128 c.cent-more.result))
-    (to_z-of_z w128 _ d ∙ c.wide-add-down.ensures.value ∙ ap (λ (z : ℤ). z +ℤ to_z w128 (of_z w128 c.args.terms.now.even)) o
-    ∙ ap (λ (z : ℤ). c.own-less-mine.result +ℤ z) ev)
-    ∙ ap (λ (z : ℤ). (c.own-less-mine.result +ℤ c.args.terms.now.even) +ℤ z) (to_z-of_z w128 _ i))
+    ∙ cents_test h (entered h.n e) c.requires.housed c.args.r _ _ c.own_less-mine.result c.args.terms.now.even c.args.terms.now.missing
+    c.cent_more.result c.args.terms.now.surplus _ c.requires.room
+    (to_z-of_z w128 _ f ∙ c.wide_at.ensures.value ∙ sym (get_or-take h.n e.cents c.args.r (pos 0) c.requires.room))
+    c.own_less-mine.ensures.value (c.requires.reckoned.tenant c.args.r c.requires.room) c.requires.reckoned.even c.requires.reckoned.missing
+    (c.cent_more.ensures.value ∙ ap (λ (z : ℤ). cond (lt_z (pos c.args.r) z) (pos 1) (pos 0)) (to_z-of_z w128 _ k)) c.requires.reckoned.surplus
+    (to_z-of_z w128 _ t ∙ c.wide_add-cents.ensures.value
+    ∙ ap (λ (z : ℤ). z +ℤ to_z w128 (of_z w128 c.cent_more.result))
+    (to_z-of_z w128 _ d ∙ c.wide_add-down.ensures.value ∙ ap (λ (z : ℤ). z +ℤ to_z w128 (of_z w128 c.args.terms.now.even)) o
+    ∙ ap (λ (z : ℤ). c.own_less-mine.result +ℤ z) ev)
+    ∙ ap (λ (z : ℤ). (c.own_less-mine.result +ℤ c.args.terms.now.even) +ℤ z) (to_z-of_z w128 _ i))

@@ -12,6 +12,6 @@ worth-requires c =
 
 pub returns : goal.returns
 returns c =
-    let r = own_is (house_of c.args.group.now.bytes.now) c.args.entries.now c.args.i c.worth.result c.wide-at.result c.requires.person
-    c.worth.ensures c.wide-at.ensures.value in
+    let r = own_is (house_of c.args.group.now.bytes.now) c.args.entries.now c.args.i c.worth.result c.wide_at.result c.requires.person
+    c.worth.ensures c.wide_at.ensures.value in
     record { value = omega (arith, ints, r); within = record { low = omega (arith, ints); high = omega (arith, ints) } }

@@ -13,8 +13,8 @@ loop-i-init c = (refl, record { low = omega (arith, ints); high = omega (arith, 
 pub loop-i-preserved : goal.loop-i-preserved
 unfolding sum
 loop-i-preserved c =
-    let o = c.own-less-total.ensures.value in
-    let w = c.own-less-total.ensures.within in
+    let o = c.own_less-total.ensures.value in
+    let w = c.own_less-total.ensures.within in
     let t = c.loop-i.invariant.0 in
     let v = c.loop-i.invariant.1 in
     let l : c.loop-i.i < most_people = let few = c.count-n.ensures.allowed.few in omega arith in

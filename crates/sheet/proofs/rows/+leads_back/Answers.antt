@@ -17,8 +17,8 @@ returns-then-before-i t c =
     back_here (take c.args.n c.args.entries.now.before) c.args.i c.args.j c.args.left (omega arith) (λ e. c.if-before-eq-NOBODY.false (sym p ∙ e))
     (p ∙ c.if-before-i.true)
 
-pub leads-back-requires : goal.leads-back-requires
-leads-back-requires t c =
+pub leads_back-requires : goal.leads_back-requires
+leads_back-requires t c =
     let w : length c.args.entries.now.before ≡ most_people = search rules in
     let p = prior_read c.args.entries.now.before c.args.n c.args.j c.requires.person (omega arith) in
     let q : get_or c.args.entries.now.before c.args.j 0 < c.args.n =

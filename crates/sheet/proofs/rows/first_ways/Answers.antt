@@ -7,11 +7,11 @@ use Rattle.rents.specs.Faults.{way_fault}
 use Rattle.sheet.specs.Entries.{claimed}
 use Rattle.sheet.proofs.rows.first_ways.Goals as goal
 
-pub returns-then-first-way-n : goal.returns-then-first-way-n
-returns-then-first-way-n c =
+pub returns-then-first_way-n : goal.returns-then-first_way-n
+returns-then-first_way-n c =
     let h = house_of c.args.group.now.bytes.now in
     let l : c.loop-k.k < h.n = omega arith in
-    let a : first (way_fault h (claimed h c.args.entries.now) c.loop-k.k) h.n < h.n = omega (arith, c.first-way.ensures) in
+    let a : first (way_fault h (claimed h c.args.entries.now) c.loop-k.k) h.n < h.n = omega (arith, c.first_way.ensures) in
     sym (first_is _ _ c.loop-k.k l (lt-ltb _ _ a) c.loop-k.invariant)
 
 pub returns : goal.returns

@@ -17,6 +17,6 @@ worth-own-requires c =
 
 pub returns : goal.returns
 returns c =
-    let r = reach_is (house_of c.args.group.now.bytes.now) c.args.entries.now c.args.k c.args.i c.wide-at.result c.worth-seen.result
-    c.worth-own.result c.requires.persons.0 c.wide-at.ensures.value c.worth-seen.ensures c.worth-own.ensures in
+    let r = reach_is (house_of c.args.group.now.bytes.now) c.args.entries.now c.args.k c.args.i c.wide_at.result c.worth-seen.result
+    c.worth-own.result c.requires.persons.0 c.wide_at.ensures.value c.worth-seen.ensures c.worth-own.ensures in
     omega (arith, ints, r)

@@ -11,8 +11,8 @@ returns c =
     let ed = c.requires.lengths in
     record {
       rents =
-          priced h c.requires.rooms.1 _ _ _ _ _ _ _ c.count.ensures.people c.rent.ensures er ed c.fairest-rents-outcome.ensures.rents
-          c.fairest-rents-outcome.ensures.held c.write-cents.ensures.cents;
-      joint = c.fairest-rents-outcome.ensures.joint ∙ ap (joint h) er;
-      least = c.fairest-rents-outcome.ensures.least ∙ least_as h c.requires.rooms.1 _ _ er ed;
+          priced h c.requires.rooms.1 _ _ _ _ _ _ _ c.count.ensures.people c.rent.ensures er ed c.fairest_rents-outcome.ensures.rents
+          c.fairest_rents-outcome.ensures.held c.write_cents.ensures.cents;
+      joint = c.fairest_rents-outcome.ensures.joint ∙ ap (joint h) er;
+      least = c.fairest_rents-outcome.ensures.least ∙ least_as h c.requires.rooms.1 _ _ er ed;
     }

@@ -15,7 +15,7 @@ use Rattle.sheet.proofs.sharing.share.Goals as goal
 pub returns : goal.returns
 returns c =
     let g = c.args.group.now in
-    let e = taken_lent _ _ _ _ _ (house_of g) c.in-ok-admit.ensures in
+    let e = taken_lent _ _ _ _ _ (house_of g) c.in_ok-admit.ensures in
     let q = c.new.ensures in
     let a = allowed g (passed g (ap is_taken e)) in
     let n : c.solve.result.people ≡ (house_of g).n = c.solve.ensures.people ∙ ap (λ (s : List ℕ). (house_of s).n) q in

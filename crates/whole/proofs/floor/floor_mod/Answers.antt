@@ -7,10 +7,10 @@ use Rattle.whole.proofs.floor.floor_mod.Goals as goal
 
 pub returns : goal.returns
 returns c =
-    let f : SFits w64 c.rem-euclid.result = record { sfits = c.rem-euclid.type-inv } in
+    let f : SFits w64 c.rem_euclid.result = record { sfits = c.rem_euclid.type_inv } in
     let g = c.ranges.a in
     let h : c.args.n < 2 ^ hbits w64 = omega arith in
-    let e : nat_abs (to_z w64 (of_z w64 c.rem-euclid.result)) ≡ rest c.args.a c.args.n =
-    ap nat_abs (to_z-of_z w64 c.rem-euclid.result f ∙ (simp (to_z-of_z, to_z_pos) at c.rem-euclid.ensures.value))
+    let e : nat_abs (to_z w64 (of_z w64 c.rem_euclid.result)) ≡ rest c.args.a c.args.n =
+    ap nat_abs (to_z-of_z w64 c.rem_euclid.result f ∙ (simp (to_z-of_z, to_z_pos) at c.rem_euclid.ensures.value))
     ∙ euclid_rest c.args.a c.args.n in
     record { value = e; below = rw e (rests c.args.a c.args.n c.requires).0 }

@@ -9,8 +9,8 @@ use Rattle.whole.proofs.wide.wide_times.Goals as goal
 bound : (c : goal.Start) → Within (2 ^ 120) (c.args.a *ℤ pos c.args.n)
 bound c = product_within (2 ^ 100) (2 ^ 20) c.args.a c.args.n c.requires.0 c.requires.1
 
-pub overflow-mul-result : goal.overflow-mul-result
-overflow-mul-result c =
+pub overflow_mul-result : goal.overflow_mul-result
+overflow_mul-result c =
     let f = c.ranges.a in let g : c.args.n < 2 ^ hbits w128 = omega arith in let b = bound c in
     simp (to_z-of_z, to_z_pos) (omega (arith, ints))
 

@@ -6,7 +6,7 @@ use Rattle.rooms.proofs.group.Group.new.Goals as goal
 pub bounds-bytes-0 : goal.bounds-bytes-0
 bounds-bytes-0 c = let p = passed c.args.bytes.now (ap is_taken c.requires) in omega arith
 
-pub invariant-of-result : goal.invariant-of-result
-invariant-of-result c =
+pub invariant_of-result : goal.invariant_of-result
+invariant_of-result c =
     let s = c.args.bytes.now in
-    (sym (people_is s), ((passed s (ap is_taken c.requires)).few, (ap is_taken c.requires, tt)))
+    record { count = sym (people_is s); few = (passed s (ap is_taken c.requires)).few; good = ap is_taken c.requires }

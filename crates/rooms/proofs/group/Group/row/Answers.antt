@@ -6,8 +6,8 @@ use Rattle.rooms.proofs.group.Group.row.Goals as goal
 pub loop-r-init : goal.loop-r-init
 loop-r-init c = written_none c.args.self.now.bytes.now c.args.i
 
-pub worth-word-requires : goal.worth-word-requires
-worth-word-requires c =
+pub worth_word-requires : goal.worth_word-requires
+worth_word-requires c =
     let s = c.args.self.now.bytes.now in
     worth_within s c.args.self.now.n c.args.i c.loop-r.r (passed s c.args.self.now.good) c.args.self.now.count c.requires c.loop-r-test.true
 
@@ -16,8 +16,8 @@ loop-r-preserved c =
     let s = c.args.self.now.bytes.now in
     let few = (passed s c.args.self.now.good).few in
     let e : c.args.self.now.n ≡ people s = c.args.self.now.count ∙ people_is s in
-    written_more s c.args.i c.loop-r.r c.loop-r.mine c.worth-word.result (omega arith)
-    (c.worth-word.ensures ∙ ap (λ n. worth_word s (c.args.i * n + c.loop-r.r)) e) c.loop-r.invariant
+    written_more s c.args.i c.loop-r.r c.loop-r.mine c.worth_word.result (omega arith)
+    (c.worth_word.ensures ∙ ap (λ n. worth_word s (c.args.i * n + c.loop-r.r)) e) c.loop-r.invariant
 
 pub returns : goal.returns
 returns c =

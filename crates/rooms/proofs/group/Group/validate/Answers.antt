@@ -18,9 +18,9 @@ pub returns-then-bytes-want-2 : goal.returns-then-bytes-want-2
 unfolding read
 returns-then-bytes-want-2 c = search rules
 
-pub returns-then-word-at-gt-MOST-RENT : goal.returns-then-word-at-gt-MOST-RENT
+pub returns-then-word_at-gt-MOST_RENT : goal.returns-then-word_at-gt-MOST_RENT
 unfolding read
-returns-then-word-at-gt-MOST-RENT c = search rules
+returns-then-word_at-gt-MOST_RENT c = search rules
 
 pub returns-then-k-n : goal.returns-then-k-n
 unfolding read

@@ -10,7 +10,7 @@ import sys
 
 WORD = re.compile(r"(?<![A-Za-z0-9_'-])[A-Za-z_][A-Za-z0-9_']*(?:-[A-Za-z0-9_']+)+(?![A-Za-z0-9_'-])")
 CHECKERS = {"overflow_add", "overflow_sub", "overflow_mul", "overflow_cast", "overflow_step", "overflow_shl", "overflow_shr", "invariant_of", "slice_bounds",
-            "type_inv", "in_ok", "in_err", "in_default", "nonzero_div", "nonzero_rem", "offset_bounds"}
+            "type_inv", "in_ok", "in_err", "in_default", "element_fits", "nonzero_div", "nonzero_rem", "offset_bounds"}
 
 
 def read(path):

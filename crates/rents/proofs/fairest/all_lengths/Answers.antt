@@ -20,7 +20,7 @@ pub loop-i-preserved : goal.loop-i-preserved
 loop-i-preserved c =
     let a = c.sum-lengths.ensures.value in
     let b = c.sum-lengths.ensures.within in
-    let f = c.loop-i-test.element-fits in
+    let f = c.loop-i-test.element_fits in
     let g = c.requires.1 c.loop-i.i in
     let e : c.loop-i.lengths ≡ sum (λ i. number (signed c.args.d) i) c.loop-i.i = sym c.loop-i.lengths-is ∙ c.loop-i.invariant in
     sum_step (λ i. number (signed c.args.d) i) c.loop-i.i c.loop-i.lengths (pos (get_or c.args.d c.loop-i.i 0)) (to_z w64 (of_z w64 c.sum-lengths.result)) e

@@ -1,6 +1,8 @@
 // How the programs read and write: a line on standard error where something can't be, and files written whole or not at all. No contract can speak of
 // what a disk holds or a stream was sent, so most of these functions have none; .ci/programs tries them. A line on standard error begins with the
 // program's name.
+#![tactic(auto)]
+
 ghost use Rattle.std.specs.Prelude.{◌≡◌, ◌≤◌, true, IfSome, IfOk, Some, None, Ok, vec_len, MatchResult, ◌≢◌};
 
 use std::alloc::Global;

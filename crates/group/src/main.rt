@@ -1,4 +1,6 @@
 // Makes a group's bytes from text: how many people, the rent, and then for each person what each room is worth to them.
+#![tactic(auto)]
+
 use files::{printed, read_file, written};
 use rooms::Group;
 use rooms::group::{MOST_PEOPLE, MOST_RENT, MOST_WORTH};

@@ -1,4 +1,6 @@
 // Reads a group, and tells who has which room and what they pay; writes the sheet that shows it.
+#![tactic(auto)]
+
 use files::{printed, read_front, read_group, reported, written};
 use rooms::group::MOST_PEOPLE;
 use sheet::report::{JointLine, LeastLine, person_line};

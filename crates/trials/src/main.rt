@@ -1,4 +1,6 @@
 // Groups made from a seed: compared with the best of all sharings, timed, and damaged.
+#![tactic(auto)]
+
 mod compare;
 mod groups;
 mod house;

@@ -1,4 +1,6 @@
 // Checks a sheet against a group: whether its rents are the fairest, or its first fault.
+#![tactic(auto)]
+
 use files::{printed, read_file, read_group};
 use sheet::{Verdict, check};
 use std::{env, io};

@@ -28,6 +28,6 @@ unfolding house_of
 enough = lit≤ tt
 
 pub fairest_rents-out-requires : goal.fairest_rents-out-requires
-fairest_rents-out-requires c =
+fairest_rents-out-requires g c =
     let e = sym c.new-group.ensures in
     record { measured = subst (λ s. Measured (house_of s) rooms lengths) e measured; enough = subst (λ s. (house_of s).n ≤ 3) e enough }

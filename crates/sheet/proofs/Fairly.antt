@@ -25,14 +25,15 @@ use Rattle.cents.proofs.Rounding.{cents_at, cents_rounded}
 use Rattle.cents.proofs.Slice.{floor_small}
 use Rattle.whole.specs.Bits.{Signed64}
 use Rattle.whole.specs.Bounds.{Within}
-use Rattle.rents.proofs.Fair.{rents_exist}
+use Rattle.rents.specs.Rents.{Made}
+use Rattle.rents.proofs.Fair.{least_spare, rents_exist}
 use Rattle.rents.proofs.Shown.{shown_fairest}
 use Rattle.sheet.specs.Format.{Sheet, byte_column, column, sheet_bytes, sheet_of}
 use Rattle.sheet.specs.Roundtrip.{SheetFits}
 use Rattle.sheet.proofs.Roundtrips.{reads_back}
 use Rattle.sheet.specs.Judge.{judge_sheet}
 use Rattle.sheet.proofs.Meant.{shown_accepted}
-use Rattle.sheet.specs.Share.{FairShare, fair_cents, fair_rents, lengths_of, priors_of, sheet_for}
+use Rattle.sheet.specs.Share.{FairShare, LeastGain, fair_cents, fair_rents, lengths_of, priors_of, sheet_for}
 
 module _ (h : House) (a : Allowed h) where
   found : Answered h
@@ -182,3 +183,11 @@ module _ (h : House) (a : Allowed h) where
     few = found.few.cube;
     accepted = ap (judge_sheet h) read_back ∙ shown_accepted h (sheet_for h) shown (λ r l. refl);
   }
+
+  made : Made h (sharing_of h) (signed (lengths_of h)) (fair_rents h)
+  made = record { someone = a.some; housed = housed; best = means.best; longest = means.longest; rents = shown.rents }
+
+  pub least_gain : LeastGain h
+  least_gain =
+      let l = least_spare h (sharing_of h) (signed (lengths_of h)) (fair_rents h) made in
+      record { longest = means.longest; poorest = l.0; least = λ j p. (l.1 j p).1 }

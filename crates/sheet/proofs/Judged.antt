@@ -3,6 +3,7 @@ use Rattle.std.proofs.Common.{◌≡◌, ℕ, ◌+◌, ◌<◌, ◌≤◌, Bool,
 use Rattle.std.proofs.lemmas.Bool.{both_ways, cases_Bool, cases_lt, cond-false, cond-true, le-ltb, lt-ltb, ltb-false, ltb-true, or_cases}
 use Rattle.rooms.specs.Before.{on_circle}
 use Rattle.rooms.specs.First.{first, some}
+use Rattle.rooms.specs.Format.{most_people}
 use Rattle.rooms.specs.House.{House, Housed}
 use Rattle.rooms.proofs.First.{first_at, first_before}
 use Rattle.rents.specs.Shown.{Claim, Whole}
@@ -28,6 +29,13 @@ module _ (fault : ℕ → Bool) (n : ℕ) (name : ℕ → ℕ × ℕ) (next : Ju
     | inl l ↦ inl (l, first_at fault n l, named_here l)
     | inr l ↦ inr (λ k m. first_before fault n k (omega arith), named_past l)
   ]
+
+-- Where a test of two parts holds at the first place i, its second part r is below n, and so below 32.
+pub inner_small : (t : ℕ → ℕ → Bool) (n i r : ℕ) → n ≤ most_people → i ≡ first (λ i. some (t i) n) n → i < n → r ≡ first (t i) n → r < 32
+inner_small t n i r few e l q =
+    let a : first (λ i. some (t i) n) n < n = omega (arith, e) in
+    let b : some (t i) n ≡ true = ap (λ k. some (t k) n) e ∙ first_at (λ i. some (t i) n) n a in
+    omega (arith, ltb-true (first (t i) n) n b)
 
 -- ---- what is left of the judgement after the rooms, the numbers, the lengths, the circles and the ways
 abbrev pub from_prices : House → Sheet → Judgement

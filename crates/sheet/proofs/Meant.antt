@@ -6,19 +6,23 @@ use Rattle.std.proofs.lemmas.List.{ext_get_or}
 use Rattle.std.proofs.lemmas.Int.{ints}
 use Rattle.std.proofs.lemmas.Bool.{and_parts, both_ways, cases_Bool, cases_eq, eq-eqb, eqb-true, ltb-false, ltb-true, ne_eqb, not-true, or_cases, or_parts}
 use Rattle.rooms.specs.First.{first, some}
-use Rattle.rooms.specs.Format.{Reading, house_of, is_taken, read}
+use Rattle.rooms.specs.Format.{Allowed, Reading, house_of, is_taken, most_worth, read}
 use Rattle.rooms.specs.Format.Reading.{taken, refused}
-use Rattle.rooms.specs.House.{House, rent_of, room_of}
+use Rattle.rooms.specs.House.{House, rent_of, room_of, value}
 use Rattle.rooms.specs.Rows.{number, way}
 use Rattle.rooms.proofs.First.{first_at}
-use Rattle.rooms.proofs.Taken.{passed, people_is, takes}
+use Rattle.rooms.proofs.Row.{certified_around}
+use Rattle.rooms.proofs.Taken.{allowed, passed, people_is, takes}
 use Rattle.rents.specs.Rents.{due, rents_of, whose}
-use Rattle.rents.specs.Shown.{Shown, Whole}
+use Rattle.rents.specs.Answer.{Lengths}
+use Rattle.rents.specs.Shown.{Claim, Means, Shown, Whole}
 use Rattle.rents.specs.Faults.{differs, length_fault, number_fault, rent_fault, room_fault}
 use Rattle.rents.proofs.Faults.{comes_from, differs_false, ends_from, false_differs, false_less, less_false, low_from, no_length_fault, no_number_fault, no_rent_fault, no_room_fault, numbers_show, rents_from, rooms_shared}
 use Rattle.rents.proofs.Shown.{shown_fairest}
-use Rattle.cents.specs.Cents.{cents_of}
-use Rattle.sheet.specs.Accepted.{AcceptedFair, AcceptedMeans, AcceptedShown, FairAccepted, NumbersOff, RefusedFalse, RefusedFor, RightCents, RowOff, ShownAccepted, WithoutRoom}
+use Rattle.rents.proofs.Sizes.{rents_roundable}
+use Rattle.cents.proofs.Rounding.{cents_rounded}
+use Rattle.cents.specs.Cents.{Rounded, cents_of}
+use Rattle.sheet.specs.Accepted.{AcceptedFair, AcceptedMeans, AcceptedPayable, AcceptedShown, FairAccepted, NumbersOff, RefusedFalse, RefusedFor, RightCents, RowOff, ShownAccepted, WithoutRoom}
 use Rattle.sheet.specs.Accepted.RefusedFor.{cents, numbers, rents, rooms, rows, ways}
 use Rattle.sheet.specs.declared.entries.Entries.{Entries}
 use Rattle.sheet.specs.Entries.{claimed, entered}
@@ -271,3 +275,32 @@ accepted_fair group sheet e = by (read group) refl
 
 pub fair_accepted : FairAccepted
 fair_accepted group sheet h e l shown right = sym (judged_sheet group sheet h e l) ∙ shown_accepted h (sheet_of h.n sheet) shown right
+
+-- Bytes that are taken speak of a house within the bounds.
+allowed_by : (s : List ℕ) (h : House) → read s ≡ taken h → Allowed h
+allowed_by s h e =
+    let p = passed s (ap is_taken e) in
+    let t : read s ≡ taken (house_of s) = takes s p in
+    let q : house_of s ≡ h = cc in
+    subst Allowed q (allowed s p)
+
+-- No row is longer than the highest worth: with the way back from its end to its beginning it is not above 0, and that way is at least what the room at
+-- the end is not worth to who has it.
+lengths_within : (h : House) (c : Claim) → Allowed h → Shown h c → Means h c → Lengths h c.d most_worth
+unfolding way value
+lengths_within h c a s m i l =
+    let q = m.longest.reached i l in
+    let r = certified_around h c.room c.persons c.rooms s.certified i q.0 q.1 in
+    let w = a.small i (room_of c.room i) in
+    let x = q.2 in
+    (s.rows.low i l, omega (arith, ints))
+
+-- Rents whose rows are no longer than the highest worth can be rounded, and the cents of an accepted sheet are those of its rents.
+pub accepted_payable : AcceptedPayable
+accepted_payable group sheet e =
+    let m = accepted_fair group sheet e in
+    let h = m.house in
+    let c = (sheet_of h.n sheet).claim in
+    let a = allowed_by group h m.taken_as in
+    let r = rents_roundable h c.room c.d c.rents a m.shown.housed (lengths_within h c a m.shown m.means) m.shown.rents in
+    record { house = h; taken_as = m.taken_as; rounded = subst (λ cs. Rounded h.n h.rent c.rents cs) (sym m.cents) (cents_rounded h.n h.rent c.rents r) }

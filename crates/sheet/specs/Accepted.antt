@@ -8,7 +8,7 @@ use Rattle.rooms.specs.House.{House, Housed, rent_of, room_of, value}
 use Rattle.rooms.specs.Rows.{Certified, number, way}
 use Rattle.rents.specs.Rents.{Rents, due, rents_of, whose}
 use Rattle.rents.specs.Shown.{Claim, Means, Shown, Whole}
-use Rattle.cents.specs.Cents.{cents_of}
+use Rattle.cents.specs.Cents.{Rounded, cents_of}
 use Rattle.sheet.specs.Format.{Sheet, sheet_length, sheet_of}
 use Rattle.sheet.specs.Judge.{judge, judge_sheet, place}
 use Rattle.sheet.specs.Judge.Judgement.{accepted, faulty}
@@ -36,7 +36,16 @@ pub record AcceptedMeans (group sheet : List ℕ) : Type 0 where
   pub rents : (sheet_of house.n sheet).claim.rents ≡ rents_of house (sheet_of house.n sheet).claim.room (sheet_of house.n sheet).claim.d
   pub cents : (sheet_of house.n sheet).cents ≡ cents_of house.n house.rent (sheet_of house.n sheet).claim.rents
 
--- It holds of what is accepted; and whatever is shown with the right cents is accepted.
+-- What is accepted can be paid: its cents add up to the rent, are near their fractions, and leave nobody more than a cent of envy.
+pub record Payable (group sheet : List ℕ) : Type 0 where
+  pub house : House
+  pub taken_as : read group ≡ taken house
+  pub rounded : Rounded house.n house.rent (sheet_of house.n sheet).claim.rents (sheet_of house.n sheet).cents
+
+abbrev pub AcceptedPayable : Type 0
+AcceptedPayable = (group sheet : List ℕ) → judge group sheet ≡ accepted → Payable group sheet
+
+-- What is accepted means so; and whatever is shown with the right cents is accepted.
 abbrev pub AcceptedFair : Type 0
 AcceptedFair = (group sheet : List ℕ) → judge group sheet ≡ accepted → AcceptedMeans group sheet
 

@@ -1,10 +1,10 @@
 -- What share answers, as functions of the group's bytes and the lengths of what is lent. Assumes nothing: these are definitions.
 use Rattle.std.specs.Prelude.{◌≡◌, ℕ, ◌+◌, ◌*◌, ◌≤◌, cond, List, ◌++◌, length, drop, replicate, ℤ, nat_lt}
-use Rattle.rooms.specs.House.{House, joint}
+use Rattle.rooms.specs.House.{House, joint, own_gain}
 use Rattle.rooms.specs.Format.{Allowed, Reading, read, house_of, most_people}
 use Rattle.rooms.specs.Format.Reading.{taken, refused}
-use Rattle.rooms.specs.Promise.{BestSharing, Fairest}
-use Rattle.rooms.specs.Rows.{signed}
+use Rattle.rooms.specs.Promise.{BestSharing, Fairest, Poorest}
+use Rattle.rooms.specs.Rows.{Longest, signed}
 use Rattle.assignment.specs.Answer.{sharing_of, persons_of, prices_of, array_of, looks_of, work_for}
 use Rattle.longest.specs.Promise.{longest_of, before_of}
 use Rattle.rents.specs.Answer.{bits}
@@ -64,6 +64,16 @@ pub record FairShare (h : House) : Type 0 where
 
 abbrev pub AlwaysFair : Type 0
 AlwaysFair = (h : House) → Allowed h → FairShare h
+
+-- What the answer's least gain means: the rows are longest, somebody has least, and whoever has least gains just what is spare.
+pub record LeastGain (h : House) : Type 0 where
+  pub longest : Longest h (sharing_of h) (signed (lengths_of h))
+  pub poorest : (j : ℕ) × Poorest h (sharing_of h) h.n (fair_rents h) j
+  pub least : (j : ℕ) → Poorest h (sharing_of h) h.n (fair_rents h) j →
+      own_gain h (sharing_of h) h.n (fair_rents h) j ≡ spare h (sharing_of h) (signed (lengths_of h))
+
+abbrev pub AlwaysLeast : Type 0
+AlwaysLeast = (h : House) → Allowed h → LeastGain h
 
 -- THE WHOLE PROMISE of share where it answers: the bytes are those of a house; what each lent slice holds afterwards, with everything past the part used
 -- as it was; the numbers that are answered; and that the share is fair.

@@ -1,5 +1,5 @@
 -- The number and the place of each verdict, and what verdicts mean. Assumes nothing: these are definitions and statements.
-use Rattle.std.specs.Prelude.{◌≡◌, ℕ, ◌+◌, List}
+use Rattle.std.specs.Prelude.{◌≡◌, ℕ, ◌+◌, ◌<◌, List}
 use Rattle.sheet.specs.declared.verdict.Verdict.{Verdict}
 use Rattle.sheet.specs.declared.verdict.Verdict.TheVariants.{Accepted, Group, Length, Rooms, Numbers, Rows, Way, Rent, Cents}
 use Rattle.rooms.specs.Refused.{number_of, place_of}
@@ -16,3 +16,15 @@ meaning (Rows person) = faulty (9, person)
 meaning (Way from to) = faulty (10, place from to)
 meaning (Rent room) = faulty (11, room)
 meaning (Cents room) = faulty (11, room + 32)
+
+-- The second part of a place is below 32, as all rooms and people are, so that a number and a place are those of one verdict alone.
+abbrev pub Plain : Verdict → Type 0
+Plain Accepted = Unit {0}
+Plain (Group e) = Unit {0}
+Plain (Length at) = Unit {0}
+Plain (Rooms person) = Unit {0}
+Plain (Numbers person room) = room < 32
+Plain (Rows person) = Unit {0}
+Plain (Way from to) = to < 32
+Plain (Rent room) = room < 32
+Plain (Cents room) = Unit {0}

@@ -2,10 +2,10 @@
 ghost use Rattle.std.specs.Prelude.{◌≡◌};
 ghost use Rattle.rooms.specs.Format.{house_of};
 ghost use Rattle.rents.specs.Shown.{Whole};
-ghost use Rattle.sheet.specs.Accepted.{AcceptedFair, AcceptedMeans, AcceptedShown, FairAccepted, RefusedFalse, ShownAccepted};
+ghost use Rattle.sheet.specs.Accepted.{AcceptedFair, AcceptedMeans, AcceptedPayable, AcceptedShown, FairAccepted, Payable, RefusedFalse, ShownAccepted};
 ghost use Rattle.sheet.specs.Entries.{claimed, entered};
 ghost use Rattle.sheet.specs.Judge.{judge, judge_sheet};
-ghost use Rattle.sheet.specs.Verdicts.{meaning};
+ghost use Rattle.sheet.specs.Verdicts.{Plain, meaning};
 ghost use Rattle.sheet.specs.declared.verdict.Verdict.TheVariants.{Accepted};
 
 use super::entries::{Entries, read_entries};
@@ -19,7 +19,9 @@ use rooms::Group;
 // Whether the sheet shows the fairest share of the group's house, or the first fault.
 pub fn check(group: &[u8], sheet: &[u8]) -> Verdict
     ensures judged { meaning result ≡ judge group.now sheet.now }
+    ensures plain { Plain result }
     ensures accepted { result ≡ Accepted → AcceptedMeans group.now sheet.now }
+    ensures payable { result ≡ Accepted → Payable group.now sheet.now }
 {
     if let Err(refusal) = Group::validate(group) {
         return Verdict::Group(refusal);
@@ -35,7 +37,8 @@ pub fn check(group: &[u8], sheet: &[u8]) -> Verdict
 // The tests in their order.
 fn check_entries(group: &Group, entries: &Entries) -> Verdict
     requires { Whole (house_of group.now.bytes.now) (claimed (house_of group.now.bytes.now) entries.now) }
-    ensures { meaning result ≡ judge_sheet (house_of group.now.bytes.now) (entered (house_of group.now.bytes.now).n entries.now) }
+    ensures judged { meaning result ≡ judge_sheet (house_of group.now.bytes.now) (entered (house_of group.now.bytes.now).n entries.now) }
+    ensures plain { Plain result }
 {
     let n = group.count();
     let person = first_room(group, entries);
@@ -75,6 +78,7 @@ pub fn verdicts_stand()
     ensures accepted { AcceptedShown }
     ensures shown { ShownAccepted }
     ensures fair { AcceptedFair }
+    ensures payable { AcceptedPayable }
     ensures all { FairAccepted }
     ensures refused { RefusedFalse }
 {}

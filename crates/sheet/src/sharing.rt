@@ -1,5 +1,5 @@
 // The public call that shares a house: on lent slices, all or nothing.
-ghost use Rattle.std.specs.Prelude.{◌≡◌, ◌-◌, ◌*◌, ◌≤◌, ◌++◌, length, drop, replicate, MatchResult};
+ghost use Rattle.std.specs.Prelude.{◌≡◌, ◌-◌, ◌*◌, ◌≤◌, ◌++◌, length, drop, replicate, IfOk, MatchResult};
 ghost use Rattle.rooms.specs.Before.{nobody};
 ghost use Rattle.rooms.specs.Format.{most_people, Allowed, house_of, read, taken, refused};
 ghost use Rattle.rooms.specs.House.{joint as joint-of};
@@ -9,7 +9,7 @@ ghost use Rattle.assignment.specs.Answer.{sharing_of, persons_of, prices_of, arr
 ghost use Rattle.rents.specs.Answer.{Measured, bits};
 ghost use Rattle.rents.specs.Rents.{spare};
 ghost use Rattle.sheet.specs.Format.{sheet_bytes, sheet_length};
-ghost use Rattle.sheet.specs.Share.{lengths_of, priors_of, fair_rents, fair_cents, sheet_for, lent_enough, Shares, Refuses, AlwaysFair};
+ghost use Rattle.sheet.specs.Share.{lengths_of, priors_of, fair_rents, fair_cents, sheet_for, lent_enough, Shares, Refuses, AlwaysFair, AlwaysLeast, LeastGain};
 
 use super::write::{sheet_len, write_sheet};
 use assignment::{Assignment, assign, work_len};
@@ -44,19 +44,21 @@ pub fn share(
     work: &mut [u64],
     sheet: &mut [u8],
 ) -> Result<Shared, Refusal>
-    ensures { MatchResult result
+    ensures whole { MatchResult result
         (λ s. Shares group.now rooms.old rents.old work.old sheet.old
         rooms.new rents.new work.new sheet.new s.people s.joint s.least s.looks)
         (λ e. Refuses group.now rooms.old rents.old work.old sheet.old
         rooms.new rents.new work.new sheet.new (number_of e) (place_of e)) }
+    ensures least { IfOk result (λ s. LeastGain (house_of group.now)) }
 {
     admit(group, rooms.len(), rents.len(), work.len(), sheet.len())?;
     Ok(solve(&Group::new(group), rooms, rents, work, sheet))
 }
 
-// The share of every house within the bounds is fair, and its sheet is accepted.
+// The share of every house within the bounds is fair, and its sheet is accepted; and its least gain is what whoever has least gains.
 pub fn share_stands()
-    ensures { AlwaysFair }
+    ensures fair { AlwaysFair }
+    ensures least { AlwaysLeast }
 {}
 
 // Whether a group is taken where slices of these lengths are lent, or why not.

@@ -4,7 +4,7 @@ use Rattle.rooms.specs.Refused.{number_of, place_of}
 use Rattle.sheet.specs.Format.{sheet_length, sheet_of}
 use Rattle.sheet.specs.Judge.{judge_sheet}
 use Rattle.sheet.specs.Verdicts.{meaning}
-use Rattle.sheet.proofs.Meant.{accepted_fair, claimed_whole, entered_whole, judged_length, judged_refused, judged_sheet}
+use Rattle.sheet.proofs.Meant.{accepted_fair, accepted_payable, claimed_whole, entered_whole, judged_length, judged_refused, judged_sheet}
 use Rattle.sheet.proofs.checker.check.Goals as goal
 
 pub check_entries-requires : goal.check_entries-requires
@@ -17,7 +17,7 @@ returns-in-Err c =
     let g = c.args.group.now in
     let s = c.args.sheet.now in
     let j = judged_refused g s (number_of c.in-Err.refusal, place_of c.in-Err.refusal) c.in-Err.ensures in
-    record { judged = j; accepted = λ e. accepted_fair g s (sym j ∙ ap meaning e) }
+    record { judged = j; plain = tt; accepted = λ e. accepted_fair g s (sym j ∙ ap meaning e); payable = λ e. accepted_payable g s (sym j ∙ ap meaning e) }
 
 pub returns-then-sheet-sheet_len : goal.returns-then-sheet-sheet_len
 returns-then-sheet-sheet_len c =
@@ -25,7 +25,7 @@ returns-then-sheet-sheet_len c =
     let s = c.args.sheet.now in
     let n : c.count-n.result ≡ (house_of g).n = c.count-n.ensures.people ∙ ap (λ (b : List ℕ). (house_of b).n) c.new-house.ensures in
     let j = judged_length g s (house_of g) c.in_default.ensures (λ e. c.if-sheet-sheet_len.true (e ∙ ap sheet_length (sym n) ∙ sym c.sheet_len.ensures)) in
-    record { judged = j; accepted = λ e. accepted_fair g s (sym j ∙ ap meaning e) }
+    record { judged = j; plain = tt; accepted = λ e. accepted_fair g s (sym j ∙ ap meaning e); payable = λ e. accepted_payable g s (sym j ∙ ap meaning e) }
 
 pub returns : goal.returns
 returns c =
@@ -35,6 +35,6 @@ returns c =
     let n : c.count-n.result ≡ (house_of g).n = c.count-n.ensures.people ∙ ap (λ (b : List ℕ). (house_of b).n) c.new-house.ensures in
     let l : length s ≡ sheet_length (house_of g).n = c.if-sheet-sheet_len.false ∙ c.sheet_len.ensures ∙ ap sheet_length n in
     let e = entered_whole (house_of b) c.read_entries.result s c.count-n.result c.count-n.ensures.people c.read_entries.ensures in
-    let j = c.check_entries.ensures ∙ ap (judge_sheet (house_of b)) e
+    let j = c.check_entries.ensures.judged ∙ ap (judge_sheet (house_of b)) e
     ∙ ap (λ (x : List ℕ). judge_sheet (house_of x) (sheet_of (house_of x).n s)) c.new-house.ensures ∙ judged_sheet g s (house_of g) c.in_default.ensures l in
-    record { judged = j; accepted = λ e. accepted_fair g s (sym j ∙ ap meaning e) }
+    record { judged = j; plain = c.check_entries.ensures.plain; accepted = λ e. accepted_fair g s (sym j ∙ ap meaning e); payable = λ e. accepted_payable g s (sym j ∙ ap meaning e) }

@@ -1,5 +1,5 @@
-use Rattle.sheet.proofs.Fairly.{fair}
+use Rattle.sheet.proofs.Fairly.{fair, least_gain}
 use Rattle.sheet.proofs.sharing.share_stands.Goals as goal
 
 pub returns : goal.returns
-returns c = fair
+returns c = record { fair = fair; least = least_gain }

@@ -3,6 +3,7 @@
 
 use files::{printed, read_file, read_group};
 use sheet::{Verdict, check};
+use std::process::ExitCode;
 use std::{env, io};
 
 fn help(rt: &HostRuntime) -> io::Result<()> {
@@ -51,13 +52,13 @@ fn run(rt: &HostRuntime) -> io::Result<bool> {
     judge(rt, group.as_str(), sheet.as_str())
 }
 
-fn main(rt: HostRuntime) -> Result<(), ()> {
+fn main(rt: HostRuntime) -> ExitCode {
     match run(&rt) {
-        Ok(true) => Ok(()),
-        Ok(false) => Err(()),
+        Ok(true) => ExitCode::SUCCESS,
+        Ok(false) => ExitCode::FAILURE,
         Err(e) => {
             let _ = eprintln!(rt; "check: {e}");
-            Err(())
+            ExitCode::FAILURE
         }
     }
 }

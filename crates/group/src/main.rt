@@ -5,6 +5,7 @@ use files::{printed, read_file, written};
 use rooms::Group;
 use rooms::group::{MOST_PEOPLE, MOST_RENT, MOST_WORTH};
 use std::alloc::{AllocError, Global};
+use std::process::ExitCode;
 use std::{env, io};
 
 // A place of the text; lines and columns count from 1.
@@ -195,13 +196,13 @@ fn run(rt: &HostRuntime) -> io::Result<bool> {
     write_group(rt, text.as_str(), group.as_str())
 }
 
-fn main(rt: HostRuntime) -> Result<(), ()> {
+fn main(rt: HostRuntime) -> ExitCode {
     match run(&rt) {
-        Ok(true) => Ok(()),
-        Ok(false) => Err(()),
+        Ok(true) => ExitCode::SUCCESS,
+        Ok(false) => ExitCode::FAILURE,
         Err(e) => {
             let _ = eprintln!(rt; "group: {e}");
-            Err(())
+            ExitCode::FAILURE
         }
     }
 }

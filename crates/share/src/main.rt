@@ -6,6 +6,7 @@ use rooms::group::MOST_PEOPLE;
 use sheet::report::{JointLine, LeastLine, person_line};
 use sheet::sharing::{MOST_RENTS, MOST_SHEET, MOST_WORK, Shared};
 use sheet::{share, sheet_len};
+use std::process::ExitCode;
 use std::{env, io};
 
 fn help(rt: &HostRuntime) -> io::Result<()> {
@@ -103,13 +104,13 @@ fn run(rt: &HostRuntime) -> io::Result<bool> {
     share_file(rt, group.as_str(), sheet)
 }
 
-fn main(rt: HostRuntime) -> Result<(), ()> {
+fn main(rt: HostRuntime) -> ExitCode {
     match run(&rt) {
-        Ok(true) => Ok(()),
-        Ok(false) => Err(()),
+        Ok(true) => ExitCode::SUCCESS,
+        Ok(false) => ExitCode::FAILURE,
         Err(e) => {
             let _ = eprintln!(rt; "share: {e}");
-            Err(())
+            ExitCode::FAILURE
         }
     }
 }

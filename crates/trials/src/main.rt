@@ -11,6 +11,7 @@ mod timing;
 
 use compare::compare_all;
 use load::load_all;
+use std::process::ExitCode;
 use std::{env, io};
 use timing::time_all;
 
@@ -73,13 +74,13 @@ fn run(rt: &HostRuntime) -> io::Result<bool> {
     usage(rt)
 }
 
-fn main(rt: HostRuntime) -> Result<(), ()> {
+fn main(rt: HostRuntime) -> ExitCode {
     match run(&rt) {
-        Ok(true) => Ok(()),
-        Ok(false) => Err(()),
+        Ok(true) => ExitCode::SUCCESS,
+        Ok(false) => ExitCode::FAILURE,
         Err(e) => {
             let _ = eprintln!(rt; "trials: {e}");
-            Err(())
+            ExitCode::FAILURE
         }
     }
 }

@@ -1,5 +1,5 @@
 -- The numbers moved at the end of a round, whose last room is m at distance b m.
-use Rattle.std.proofs.Common.{◌≡◌, ℕ, ◌+◌, ◌-◌, ◌<◌, ◌≤◌, sym, ap, ◌∙◌, inl, inr, ⊎_elim, arith}
+use Rattle.std.proofs.Common.{◌≡◌, ℕ, ◌+◌, ◌<◌, ◌≤◌, sym, ap, ◌∙◌, inl, inr, ⊎_elim, arith}
 use Rattle.std.proofs.lemmas.Bool.{cases_eq, cases_lt, cases_order}
 use Rattle.assignment.specs.Between.{Dual, Placed}
 use Rattle.assignment.proofs.Invariant.{Comes, Ended, Moved, Link}

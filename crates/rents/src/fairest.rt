@@ -2,11 +2,11 @@
 // each person, in exact numbers.
 ghost use Rattle.std.specs.Prelude.{◌≡◌, ℕ, ◌-◌, ◌^◌, ◌≤◌, ◌++◌, map, length, drop, replicate, pos, ◌+ℤ◌, ◌-ℤ◌, ◌*ℤ◌, slice_index};
 ghost use Rattle.std.specs.List.{range_with_len};
-ghost use Rattle.rooms.specs.House.{Housed, joint as joint-of, sum as total};
+ghost use Rattle.rooms.specs.House.{Housed, joint as joint_of, sum as total};
 ghost use Rattle.rooms.specs.Format.{most_people, most_worth, house_of, Allowed};
 ghost use Rattle.rooms.specs.Rows.{number, signed};
 ghost use Rattle.whole.specs.Bounds.{Within};
-ghost use Rattle.rents.specs.Rents.{rents_of, spare as Spare-of};
+ghost use Rattle.rents.specs.Rents.{rents_of, spare as spare_of};
 ghost use Rattle.rents.specs.Answer.{Measured, Fair, bits, held, gains_of, RentsSmall, RentsRoundable};
 
 use rooms::Group;
@@ -32,8 +32,8 @@ pub fn fairest_rents(
     requires measured { Measured (house_of group.now.bytes.now) rooms.now d }
     requires enough { (house_of group.now.bytes.now).n ≤ length rents.old }
     ensures rents { rents.new ≡ bits (rents_of (house_of group.now.bytes.now) rooms.now (signed d)) ++ drop (house_of group.now.bytes.now).n rents.old }
-    ensures joint { result.joint ≡ joint-of (house_of group.now.bytes.now) rooms.now }
-    ensures least { result.least ≡ Spare-of (house_of group.now.bytes.now) rooms.now (signed d) }
+    ensures joint { result.joint ≡ joint_of (house_of group.now.bytes.now) rooms.now }
+    ensures least { result.least ≡ spare_of (house_of group.now.bytes.now) rooms.now (signed d) }
     ensures gains { result.gains ≡ gains_of (house_of group.now.bytes.now) rooms.now (signed d) }
     ensures held { held (house_of group.now.bytes.now).n rents.new ≡ rents_of (house_of group.now.bytes.now) rooms.now (signed d) }
     ensures fair { Fair (house_of group.now.bytes.now) rooms.now (signed d) (held (house_of group.now.bytes.now).n rents.new) result.least }
@@ -60,7 +60,7 @@ pub fn answer_stands()
 fn joint_worth(group: &Group, n: usize, rooms: &[u32]) -> i64
     requires people { (n ≡ (house_of group.now.bytes.now).n) × (Allowed (house_of group.now.bytes.now)) }
     requires housed { Housed (house_of group.now.bytes.now) rooms.now }
-    ensures { result ≡ joint-of (house_of group.now.bytes.now) rooms.now }
+    ensures { result ≡ joint_of (house_of group.now.bytes.now) rooms.now }
 {
     let mut worths = 0;
     for i in 0..n {
@@ -119,7 +119,7 @@ fn write_rents(
     rents: &mut [u64],
 )
     requires people { (n ≡ (house_of group.now.bytes.now).n) × (Allowed (house_of group.now.bytes.now)) }
-    requires measured { (Measured (house_of group.now.bytes.now) rooms.now d) × (spare ≡ Spare-of (house_of group.now.bytes.now) rooms.now (signed d)) }
+    requires measured { (Measured (house_of group.now.bytes.now) rooms.now d) × (spare ≡ spare_of (house_of group.now.bytes.now) rooms.now (signed d)) }
     requires enough { n ≤ length rents.old }
     ensures { rents.new ≡ bits (rents_of (house_of group.now.bytes.now) rooms.now (signed d)) ++ drop n rents.old }
 {

@@ -1,5 +1,5 @@
 -- Bytes, the lowest first, and the numbers that they are: nothing is lost either way.
-use Rattle.std.proofs.Common.{◌≡◌, ℕ, zero, suc, ◌+◌, ◌*◌, ◌/◌, ◌%◌, ◌^◌, ◌<◌, ◌≤◌, List, [], ◌∷◌, ◌++◌, length, get_or, take, drop, sym, refl, ap, ◌∙◌, pow-suc, arith}
+use Rattle.std.proofs.Common.{◌≡◌, ℕ, zero, suc, ◌+◌, ◌*◌, ◌/◌, ◌%◌, ◌^◌, ◌<◌, ◌≤◌, List, [], ◌∷◌, length, get_or, take, drop, refl, ap, pow-suc, arith}
 use Rattle.std.proofs.lemmas.List.{get_or-drop, length-take-le, length-drop}
 use Rattle.rooms.specs.Bytes.{low_bytes, from_bytes, Bytes}
 

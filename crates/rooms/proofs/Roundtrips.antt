@@ -1,5 +1,5 @@
 -- The bytes of a house are read back as that house, and bytes that are taken are those of their house.
-use Rattle.std.proofs.Common.{◌≡◌, ℕ, zero, suc, ◌+◌, ◌*◌, ◌/◌, ◌%◌, ◌^◌, ◌<◌, ◌≤◌, List, [], ◌∷◌, ◌++◌, map, length, get_or, take, drop, sym, refl, ap, ◌∙◌, subst, inl, inr, append_assoc, suc-mul, div-lt_iff_lt-mul, add-mul, zero-mul, arith, take-add}
+use Rattle.std.proofs.Common.{◌≡◌, ℕ, zero, suc, ◌+◌, ◌*◌, ◌/◌, ◌%◌, ◌^◌, ◌<◌, ◌≤◌, List, [], ◌∷◌, ◌++◌, map, length, get_or, take, drop, sym, refl, ap, ◌∙◌, inl, inr, append_assoc, suc-mul, div-lt_iff_lt-mul, add-mul, zero-mul, arith, take-add}
 use lib.Seq.{drop-append-add}
 use Rattle.std.specs.List.{range_with_len, flat_map}
 use Rattle.std.proofs.lemmas.Nat.{div-add-mod', mod_below, mul-add-lt}
@@ -8,7 +8,7 @@ use Rattle.std.proofs.lemmas.List.{get_or_append_left, get_or-append-add, get_or
 use Rattle.std.proofs.lemmas.Bool.{cases_lt}
 use Rattle.rooms.specs.House.{House, worth_at}
 use Rattle.rooms.specs.Bytes.{low_bytes, from_bytes, Bytes}
-use Rattle.rooms.specs.Format.{most_people, most_worth, Allowed, word_bytes, word, bytes_of, group_length, worth_place, people, worth_word, house_of, read, is_taken}
+use Rattle.rooms.specs.Format.{most_worth, Allowed, word_bytes, word, bytes_of, group_length, worth_place, worth_word, house_of, is_taken}
 use Rattle.rooms.specs.Format.Reading.{taken}
 use Rattle.rooms.specs.Roundtrip.{ReadsBack, WritesBack}
 use Rattle.rooms.proofs.Bytes.{low_length, from_low, low_part}

@@ -51,7 +51,7 @@ fn rents_and_worths(rt: HostRuntime) {
     assert_eq!(rt;
         answer(&[
             2, 0, 0, 0, 0, 1, 0, 0, 0, 0, 0, 0, 1, 0, 0, 0, 1, 1, 0, 0, 0,
-        ],),
+        ]),
         (4, 9),
         "the first of two"
     );

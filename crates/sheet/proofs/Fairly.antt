@@ -1,34 +1,31 @@
 -- The share of any house within the bounds is fair, and the checker accepts its sheet.
-use Rattle.std.proofs.Common.{◌≡◌, ℕ, ◌+◌, ◌-◌, ◌*◌, ◌<◌, ◌≤◌, Bool, true, false, cond, ◌⊎◌, List, [], ◌++◌, map, length, get_or, replicate, ℤ, pos, ◌≤ℤ◌, sym, refl, ap, ◌∙◌, subst, inl, inr, arith}
+use Rattle.std.proofs.Common.{◌≡◌, ℕ, ◌+◌, ◌-◌, ◌*◌, ◌<◌, ◌≤◌, Bool, true, false, cond, List, [], length, get_or, replicate, ℤ, pos, ◌≤ℤ◌, sym, refl, ap, ◌∙◌, subst, inl, inr, arith}
 use lib.Signed.{lt_z}
-use Rattle.std.specs.List.{range_with_len}
 use Rattle.std.proofs.lemmas.List.FromFn.{get_or-map-range_with_len, length-map-range_with_len}
-use Rattle.std.proofs.lemmas.List.{append-nil, ext_get_or, length-append, length-map, length-replicate}
+use Rattle.std.proofs.lemmas.List.{append-nil, ext_get_or, length-append, length-map}
 use Rattle.std.proofs.lemmas.Int.{ints}
 use Rattle.rooms.specs.House.{House, Housed, rent_of}
-use Rattle.rooms.specs.Promise.{BestSharing, Fairest}
-use Rattle.rooms.specs.Rows.{Certified, Longest, number, signed}
+use Rattle.rooms.specs.Rows.{Certified, number, signed}
 use Rattle.rooms.specs.Before.{RowsShown, nobody, prior}
 use Rattle.rooms.specs.Format.{Allowed, most_people, most_worth}
-use Rattle.rooms.proofs.Sharing.{certified_best}
-use Rattle.assignment.specs.Answer.{sharing_of, persons_of, prices_of, array_of, looks_of}
-use Rattle.assignment.specs.Promise.{Answered, Solved}
+use Rattle.assignment.specs.Answer.{sharing_of, persons_of, prices_of, array_of}
+use Rattle.assignment.specs.Promise.{Answered}
 use Rattle.assignment.proofs.Shown.{answered, answered_front}
 use Rattle.longest.specs.Run.{whole_run}
 use Rattle.longest.proofs.Padded.{padded_reads}
 use Rattle.longest.proofs.Slacks.{befores_long, number_signed, search_ends}
-use Rattle.rents.specs.Shown.{Claim, Means, Shown, Whole}
+use Rattle.rents.specs.Shown.{Means, Shown}
 use Rattle.rents.specs.Answer.{Lengths, Roundable, most_due}
 use Rattle.rents.proofs.Sizes.{rents_roundable}
-use Rattle.cents.specs.Cents.{Rounded, cents_of, extra, missing_cents}
+use Rattle.cents.specs.Cents.{Rounded, extra, missing_cents}
 use Rattle.cents.proofs.Rounding.{cents_at, cents_rounded}
 use Rattle.cents.proofs.Slice.{floor_small}
 use Rattle.whole.specs.Bits.{Signed64}
 use Rattle.whole.specs.Bounds.{Within}
-use Rattle.rents.specs.Rents.{Made}
+use Rattle.rents.specs.Rents.{Made, spare}
 use Rattle.rents.proofs.Fair.{least_spare, rents_exist}
 use Rattle.rents.proofs.Shown.{shown_fairest}
-use Rattle.sheet.specs.Format.{Sheet, byte_column, column, sheet_bytes, sheet_of}
+use Rattle.sheet.specs.Format.{byte_column, column, sheet_bytes, sheet_of}
 use Rattle.sheet.specs.Roundtrip.{SheetFits}
 use Rattle.sheet.proofs.Roundtrips.{reads_back}
 use Rattle.sheet.specs.Judge.{judge_sheet}
@@ -187,7 +184,7 @@ module _ (h : House) (a : Allowed h) where
   made : Made h (sharing_of h) (signed (lengths_of h)) (fair_rents h)
   made = record { someone = a.some; housed = housed; best = means.best; longest = means.longest; rents = shown.rents }
 
-  pub least_gain : LeastGain h
+  pub least_gain : LeastGain h (spare h (sharing_of h) (signed (lengths_of h)))
   least_gain =
       let l = least_spare h (sharing_of h) (signed (lengths_of h)) (fair_rents h) made in
       record { longest = means.longest; poorest = l.0; least = λ j p. (l.1 j p).1 }

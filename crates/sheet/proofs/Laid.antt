@@ -2,10 +2,10 @@
 use Rattle.std.proofs.Common.{◌≡◌, ℕ, ◌+◌, ◌-◌, ◌*◌, ◌<◌, ◌≤◌, Bool, true, false, cond, ltb, List, [], ◌++◌, map, length, get_or, take, drop, replicate, ℤ, pos, ◌-ℤ◌, ◌*ℤ◌, sym, refl, ap, ◌∙◌, subst, append_assoc, arith, w64, SFits, to_z, of_z}
 use Rattle.std.specs.List.{range_with_len}
 use Rattle.std.proofs.lemmas.List.FromFn.{length-map-range_with_len}
-use Rattle.std.proofs.lemmas.List.{append-nil, drop-append-le, drop-drop, drop-replicate, get_or_append_left, get_or-append_right, get_or-map, length-append, length-map, length-replicate, replicate-append-replicate, take_at, drop_at}
+use Rattle.std.proofs.lemmas.List.{append-nil, drop-append-le, drop-drop, drop-replicate, get_or_append_left, get_or-append_right, get_or-map, length-map, length-replicate, replicate-append-replicate, take_at, drop_at}
 use Rattle.std.proofs.lemmas.Int.{ints, to_z-of_z}
 use Rattle.std.proofs.lemmas.Bool.{both_ways}
-use Rattle.rooms.specs.Before.{nobody, prior}
+use Rattle.rooms.specs.Before.{nobody}
 use Rattle.rooms.specs.Format.{Allowed, Reading, is_taken, most_people, most_worth}
 use Rattle.rooms.specs.Format.Reading.{taken, refused}
 use Rattle.rooms.specs.House.{House, joint, rent_of, room_of, sum, value}
@@ -17,13 +17,13 @@ use Rattle.assignment.proofs.Shown.{answered, answered_front}
 use Rattle.longest.proofs.Padded.{padded_reads}
 use Rattle.longest.proofs.Slacks.{number_signed}
 use Rattle.rents.specs.Answer.{Measured, bits, held}
-use Rattle.rents.specs.Rents.{due, rents_of, spare, whose}
+use Rattle.rents.specs.Rents.{rents_of, spare, whose}
 use Rattle.whole.specs.Bits.{Signed64}
 use Rattle.cents.specs.Cents.{cents_of}
 use Rattle.sheet.specs.Format.{sheet_bytes, sheet_length}
 use Rattle.sheet.specs.Write.{handed}
 use Rattle.sheet.specs.Share.{fair_cents, fair_rents, lengths_of, lent_enough, priors_of, sheet_for}
-use Rattle.sheet.proofs.Sheets.{Says, handed_says}
+use Rattle.sheet.proofs.Sheets.{handed_says}
 use Rattle.sheet.proofs.Fairly.{cent_64, due_64, roundable, rents_long}
 
 -- Zeros past the lengths change no number.

@@ -303,4 +303,4 @@ accepted_payable group sheet e =
     let c = (sheet_of h.n sheet).claim in
     let a = allowed_by group h m.taken_as in
     let r = rents_roundable h c.room c.d c.rents a m.shown.housed (lengths_within h c a m.shown m.means) m.shown.rents in
-    record { house = h; taken_as = m.taken_as; rounded = subst (λ cs. Rounded h.n h.rent c.rents cs) (sym m.cents) (cents_rounded h.n h.rent c.rents r) }
+    record { house = h; taken_as = m.taken_as; settled = m.means.fairest.settled; rounded = subst (λ cs. Rounded h.n h.rent c.rents cs) (sym m.cents) (cents_rounded h.n h.rent c.rents r) }

@@ -4,7 +4,7 @@ use Rattle.std.specs.Prelude.{◌≡◌, ℕ, ◌+◌, ◌<◌, ◌≤◌, true,
 use Rattle.rooms.specs.Before.{Comes, RowsShown, on_circle}
 use Rattle.rooms.specs.Format.{read}
 use Rattle.rooms.specs.Format.Reading.{taken}
-use Rattle.rooms.specs.House.{House, Housed, rent_of, room_of, value}
+use Rattle.rooms.specs.House.{House, Housed, Settled, rent_of, room_of, value}
 use Rattle.rooms.specs.Rows.{Certified, number, way}
 use Rattle.rents.specs.Rents.{Rents, due, rents_of, whose}
 use Rattle.rents.specs.Shown.{Claim, Means, Shown, Whole}
@@ -36,16 +36,7 @@ pub record AcceptedMeans (group sheet : List ℕ) : Type 0 where
   pub rents : (sheet_of house.n sheet).claim.rents ≡ rents_of house (sheet_of house.n sheet).claim.room (sheet_of house.n sheet).claim.d
   pub cents : (sheet_of house.n sheet).cents ≡ cents_of house.n house.rent (sheet_of house.n sheet).claim.rents
 
--- What is accepted can be paid: its cents add up to the rent, are near their fractions, and leave nobody more than a cent of envy.
-pub record Payable (group sheet : List ℕ) : Type 0 where
-  pub house : House
-  pub taken_as : read group ≡ taken house
-  pub rounded : Rounded house.n house.rent (sheet_of house.n sheet).claim.rents (sheet_of house.n sheet).cents
-
-abbrev pub AcceptedPayable : Type 0
-AcceptedPayable = (group sheet : List ℕ) → judge group sheet ≡ accepted → Payable group sheet
-
--- What is accepted means so; and whatever is shown with the right cents is accepted.
+-- It holds of what is accepted; and whatever is shown with the right cents is accepted.
 abbrev pub AcceptedFair : Type 0
 AcceptedFair = (group sheet : List ℕ) → judge group sheet ≡ accepted → AcceptedMeans group sheet
 
@@ -53,6 +44,17 @@ abbrev pub FairAccepted : Type 0
 FairAccepted =
     (group sheet : List ℕ) (h : House) → read group ≡ taken h → length sheet ≡ sheet_length h.n → Shown h (sheet_of h.n sheet).claim →
     RightCents h (sheet_of h.n sheet) → judge group sheet ≡ accepted
+
+-- What is accepted can be paid: its cents add up to the rent, are near their fractions, the lowest rooms pay the cents that are over, and as its rents
+-- settle nobody gains more than one cent by another room.
+pub record Payable (group sheet : List ℕ) : Type 0 where
+  pub house : House
+  pub taken_as : read group ≡ taken house
+  pub settled : Settled house (sheet_of house.n sheet).claim.room house.n (sheet_of house.n sheet).claim.rents
+  pub rounded : Rounded house.n house.rent (sheet_of house.n sheet).claim.rents (sheet_of house.n sheet).cents
+
+abbrev pub AcceptedPayable : Type 0
+AcceptedPayable = (group sheet : List ℕ) → judge group sheet ≡ accepted → Payable group sheet
 
 -- ---- what is false where a sheet is refused
 

@@ -1,5 +1,5 @@
 -- What a sheet is judged, by a group's bytes and the sheet's: accepted, or the first fault, by its number and place. Assumes nothing.
-use Rattle.std.specs.Prelude.{◌≡◌, ℕ, ◌+◌, ◌*◌, Bool, true, false, cond, not, ◌||◌, List, length, ◌==◌}
+use Rattle.std.specs.Prelude.{ℕ, ◌+◌, ◌*◌, Bool, cond, ◌||◌, List, length, ◌==◌}
 use Rattle.rooms.specs.Before.{on_circle}
 use Rattle.rooms.specs.First.{first, some}
 use Rattle.rooms.specs.Format.{Reading, read}

@@ -1,5 +1,5 @@
 -- What share answers, as functions of the group's bytes and the lengths of what is lent. Assumes nothing: these are definitions.
-use Rattle.std.specs.Prelude.{◌≡◌, ℕ, ◌+◌, ◌*◌, ◌≤◌, cond, List, ◌++◌, length, drop, replicate, ℤ, nat_lt}
+use Rattle.std.specs.Prelude.{◌≡◌, ℕ, ◌*◌, ◌≤◌, cond, List, ◌++◌, length, drop, replicate, ℤ, nat_lt}
 use Rattle.rooms.specs.House.{House, joint, own_gain}
 use Rattle.rooms.specs.Format.{Allowed, Reading, read, house_of, most_people}
 use Rattle.rooms.specs.Format.Reading.{taken, refused}
@@ -9,7 +9,6 @@ use Rattle.assignment.specs.Answer.{sharing_of, persons_of, prices_of, array_of,
 use Rattle.longest.specs.Promise.{longest_of, before_of}
 use Rattle.rents.specs.Answer.{bits}
 use Rattle.rents.specs.Rents.{rents_of, spare}
-use Rattle.rents.specs.Shown.{Claim}
 use Rattle.cents.specs.Cents.{Rounded, cents_of}
 use Rattle.sheet.specs.Format.{Sheet, sheet_bytes, sheet_length, sheet_of}
 use Rattle.sheet.specs.Judge.{judge_sheet}
@@ -65,15 +64,14 @@ pub record FairShare (h : House) : Type 0 where
 abbrev pub AlwaysFair : Type 0
 AlwaysFair = (h : House) → Allowed h → FairShare h
 
--- What the answer's least gain means: the rows are longest, somebody has least, and whoever has least gains just what is spare.
-pub record LeastGain (h : House) : Type 0 where
+-- What the least that is answered means: the rows are longest, somebody has least, and n × the gain of whoever has least is just that number x.
+pub record LeastGain (h : House) (x : ℤ) : Type 0 where
   pub longest : Longest h (sharing_of h) (signed (lengths_of h))
   pub poorest : (j : ℕ) × Poorest h (sharing_of h) h.n (fair_rents h) j
-  pub least : (j : ℕ) → Poorest h (sharing_of h) h.n (fair_rents h) j →
-      own_gain h (sharing_of h) h.n (fair_rents h) j ≡ spare h (sharing_of h) (signed (lengths_of h))
+  pub least : (j : ℕ) → Poorest h (sharing_of h) h.n (fair_rents h) j → own_gain h (sharing_of h) h.n (fair_rents h) j ≡ x
 
 abbrev pub AlwaysLeast : Type 0
-AlwaysLeast = (h : House) → Allowed h → LeastGain h
+AlwaysLeast = (h : House) → Allowed h → LeastGain h (spare h (sharing_of h) (signed (lengths_of h)))
 
 -- THE WHOLE PROMISE of share where it answers: the bytes are those of a house; what each lent slice holds afterwards, with everything past the part used
 -- as it was; the numbers that are answered; and that the share is fair.

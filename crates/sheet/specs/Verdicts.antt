@@ -1,5 +1,5 @@
 -- The number and the place of each verdict, and what verdicts mean. Assumes nothing: these are definitions and statements.
-use Rattle.std.specs.Prelude.{◌≡◌, ℕ, ◌+◌, ◌<◌, List}
+use Rattle.std.specs.Prelude.{◌+◌, ◌<◌}
 use Rattle.sheet.specs.declared.verdict.Verdict.{Verdict}
 use Rattle.sheet.specs.declared.verdict.Verdict.TheVariants.{Accepted, Group, Length, Rooms, Numbers, Rows, Way, Rent, Cents}
 use Rattle.rooms.specs.Refused.{number_of, place_of}

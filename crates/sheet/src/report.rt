@@ -1,4 +1,4 @@
-// The lines that are printed of a share; each says by `shown` which bytes it is.
+// The lines that are printed of a share; each says by `output` which bytes it is.
 ghost use Rattle.std.specs.Prelude.{◌≡◌, Some};
 ghost use Rattle.sheet.specs.Report.{joint_text, person_text, least_text, line_of};
 

@@ -2,7 +2,7 @@
 ghost use Rattle.std.specs.Prelude.{◌≡◌, ◌-◌, ◌*◌, ◌≤◌, ◌++◌, length, drop, replicate, IfOk, MatchResult};
 ghost use Rattle.rooms.specs.Before.{nobody};
 ghost use Rattle.rooms.specs.Format.{most_people, Allowed, house_of, read, taken, refused};
-ghost use Rattle.rooms.specs.House.{joint as joint-of};
+ghost use Rattle.rooms.specs.House.{joint as joint_of};
 ghost use Rattle.rooms.specs.Refused.{number_of, place_of};
 ghost use Rattle.rooms.specs.Rows.{signed};
 ghost use Rattle.assignment.specs.Answer.{sharing_of, persons_of, prices_of, array_of, looks_of, work_for};
@@ -19,7 +19,7 @@ use rents::{Outcome, fairest_rents};
 use rooms::group::MOST_PEOPLE;
 use rooms::{Group, Refusal};
 
-// What the largest group wants of each slice.
+// How long the slices have to be for the largest group; the rooms are as many as the most people.
 pub const MOST_RENTS: usize = 2 * MOST_PEOPLE;
 
 pub const MOST_WORK: usize = MOST_PEOPLE * MOST_PEOPLE + 7 * MOST_PEOPLE;
@@ -49,7 +49,7 @@ pub fn share(
         rooms.new rents.new work.new sheet.new s.people s.joint s.least s.looks)
         (λ e. Refuses group.now rooms.old rents.old work.old sheet.old
         rooms.new rents.new work.new sheet.new (number_of e) (place_of e)) }
-    ensures least { IfOk result (λ s. LeastGain (house_of group.now)) }
+    ensures least { IfOk result (λ s. LeastGain (house_of group.now) s.least) }
 {
     admit(group, rooms.len(), rents.len(), work.len(), sheet.len())?;
     Ok(solve(&Group::new(group), rooms, rents, work, sheet))
@@ -105,7 +105,7 @@ fn price(group: &Group, rooms: &[u32], d: [u64; MOST_PEOPLE], rents: &mut [u64])
     requires enough { 2 * (house_of group.now.bytes.now).n ≤ length rents.old }
     ensures rents { rents.new ≡ bits (fair_rents (house_of group.now.bytes.now))
         ++ (bits (fair_cents (house_of group.now.bytes.now)) ++ drop (2 * (house_of group.now.bytes.now).n) rents.old) }
-    ensures joint { result.joint ≡ joint-of (house_of group.now.bytes.now) (sharing_of (house_of group.now.bytes.now)) }
+    ensures joint { result.joint ≡ joint_of (house_of group.now.bytes.now) (sharing_of (house_of group.now.bytes.now)) }
     ensures least { result.least ≡ spare (house_of group.now.bytes.now) (sharing_of (house_of group.now.bytes.now)) (signed (lengths_of (house_of group.now.bytes.now))) }
 {
     let outcome = fairest_rents(group, rooms, d, rents);
@@ -129,7 +129,7 @@ fn solve(
     ensures sheet { sheet.new ≡ sheet_bytes (house_of group.now.bytes.now).n (sheet_for (house_of group.now.bytes.now))
         ++ drop (sheet_length (house_of group.now.bytes.now).n) sheet.old }
     ensures people { result.people ≡ (house_of group.now.bytes.now).n }
-    ensures joint { result.joint ≡ joint-of (house_of group.now.bytes.now) (sharing_of (house_of group.now.bytes.now)) }
+    ensures joint { result.joint ≡ joint_of (house_of group.now.bytes.now) (sharing_of (house_of group.now.bytes.now)) }
     ensures least { result.least ≡ spare (house_of group.now.bytes.now) (sharing_of (house_of group.now.bytes.now)) (signed (lengths_of (house_of group.now.bytes.now))) }
     ensures looks { result.looks ≡ looks_of (house_of group.now.bytes.now) }
 {

@@ -1,5 +1,4 @@
 use Rattle.std.proofs.Common.{◌≡◌, refl, ap, ◌∙◌, add-one, arith, rules}
-use Rattle.assignment.specs.Search.{at}
 use Rattle.longest.specs.Run.{through, first_offers}
 use Rattle.longest.proofs.Passing.{offers_same}
 use Rattle.longest.proofs.first_offers.Goals as goal

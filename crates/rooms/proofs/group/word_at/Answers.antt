@@ -1,5 +1,4 @@
 use Rattle.std.proofs.Common.{arith}
-use Rattle.rooms.specs.Format.{word}
 use Rattle.rooms.proofs.Taken.{word_is}
 use Rattle.rooms.proofs.group.word_at.Goals as goal
 

@@ -1,4 +1,4 @@
-use Rattle.std.proofs.Common.{◌≡◌, ◌-◌, ◌++◌, replicate, ◌∙◌}
+use Rattle.std.proofs.Common.{◌-◌, ◌++◌, replicate, ◌∙◌}
 use Rattle.rooms.specs.Before.{nobody}
 use Rattle.rooms.specs.Format.{house_of, most_people}
 use Rattle.longest.specs.Promise.{before_of, longest_of}

@@ -1,4 +1,4 @@
-use Rattle.std.proofs.Common.{◌≡◌, ℕ, ◌*◌, List, ◌++◌, drop, replicate, ap, ◌∙◌, arith}
+use Rattle.std.proofs.Common.{◌≡◌, ℕ, ◌*◌, List, ◌++◌, drop, replicate, sym, ap, ◌∙◌, subst, arith}
 use Rattle.rooms.specs.Format.{house_of, is_taken}
 use Rattle.rooms.specs.House.{joint}
 use Rattle.rooms.specs.Rows.{signed}
@@ -7,7 +7,7 @@ use Rattle.assignment.specs.Answer.{looks_of, sharing_of, work_for}
 use Rattle.rents.specs.Answer.{bits}
 use Rattle.rents.specs.Rents.{spare}
 use Rattle.sheet.specs.Format.{sheet_bytes, sheet_length}
-use Rattle.sheet.specs.Share.{fair_cents, fair_rents, lengths_of, sheet_for}
+use Rattle.sheet.specs.Share.{LeastGain, fair_cents, fair_rents, lengths_of, sheet_for}
 use Rattle.sheet.proofs.Fairly.{fair, least_gain}
 use Rattle.sheet.proofs.Laid.{taken_lent}
 use Rattle.sheet.proofs.sharing.share.Goals as goal
@@ -19,6 +19,7 @@ returns c =
     let q = c.new.ensures in
     let a = allowed g (passed g (ap is_taken e)) in
     let n : c.solve.result.people ≡ (house_of g).n = c.solve.ensures.people ∙ ap (λ (s : List ℕ). (house_of s).n) q in
+    let l = c.solve.ensures.least ∙ ap (λ (s : List ℕ). spare (house_of s) (sharing_of (house_of s)) (signed (lengths_of (house_of s)))) q in
     record {
       whole = record {
         house = e;
@@ -35,9 +36,9 @@ returns c =
         count = n;
         few = let f = a.few in omega arith;
         together = c.solve.ensures.joint ∙ ap (λ (s : List ℕ). joint (house_of s) (sharing_of (house_of s))) q;
-        poorest = c.solve.ensures.least ∙ ap (λ (s : List ℕ). spare (house_of s) (sharing_of (house_of s)) (signed (lengths_of (house_of s)))) q;
+        poorest = l;
         looked = c.solve.ensures.looks ∙ ap (λ (s : List ℕ). looks_of (house_of s)) q;
         fair = fair (house_of g) a;
       };
-      least = least_gain (house_of g) a;
+      least = subst (LeastGain (house_of g)) (sym l) (least_gain (house_of g) a);
     }

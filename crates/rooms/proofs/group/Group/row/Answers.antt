@@ -1,4 +1,4 @@
-use Rattle.std.proofs.Common.{◌≡◌, ◌+◌, ◌*◌, ◌<◌, sym, ap, ◌∙◌, arith}
+use Rattle.std.proofs.Common.{◌≡◌, ◌+◌, ◌*◌, ◌<◌, ap, ◌∙◌, arith}
 use Rattle.rooms.specs.Format.{people, worth_word}
 use Rattle.rooms.proofs.Taken.{Written, passed, people_is, worth_within, written_none, written_more, written_each, written_whole}
 use Rattle.rooms.proofs.group.Group.row.Goals as goal

@@ -1,5 +1,5 @@
-use Rattle.std.proofs.Common.{◌≡◌, ◌+◌, ◌*◌, ◌<◌, sym, ap, ◌∙◌, arith}
-use Rattle.rooms.specs.Format.{people, worth_word}
+use Rattle.std.proofs.Common.{◌+◌, ◌*◌, sym, ap, ◌∙◌, arith}
+use Rattle.rooms.specs.Format.{worth_word}
 use Rattle.rooms.proofs.Taken.{passed, people_is, worth_is, worth_within}
 use Rattle.rooms.proofs.group.Group.worth.Goals as goal
 

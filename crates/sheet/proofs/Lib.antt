@@ -7,6 +7,7 @@ mod Shared
 mod Lengths
 mod Priced
 pub mod Judged
+mod Verdicts
 pub mod Meant
 mod Fairly
 mod Laid

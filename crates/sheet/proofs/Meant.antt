@@ -12,7 +12,7 @@ use Rattle.rooms.specs.House.{House, rent_of, room_of, value}
 use Rattle.rooms.specs.Rows.{number, way}
 use Rattle.rooms.proofs.First.{first_at}
 use Rattle.rooms.proofs.Row.{certified_around}
-use Rattle.rooms.proofs.Taken.{allowed, passed, people_is, takes}
+use Rattle.rooms.proofs.Taken.{allowed, passed, takes}
 use Rattle.rents.specs.Rents.{due, rents_of, whose}
 use Rattle.rents.specs.Answer.{Lengths}
 use Rattle.rents.specs.Shown.{Claim, Means, Shown, Whole}
@@ -225,17 +225,13 @@ module _ (group sheet : List ℕ) where
       sym (ap (λ (r : Reading). judge_read r sheet) e
       ∙ ap (λ (t : Bool). cond t (judge_sheet h (sheet_of h.n sheet)) (faulty (6, length sheet))) (eq-eqb (length sheet) (sheet_length h.n) l))
 
--- Bytes that are taken speak of somebody.
-someone : (s : List ℕ) (h : House) → read s ≡ taken h → 0 < h.n
-someone s h e =
+-- Bytes that are taken speak of a house within the bounds.
+allowed_by : (s : List ℕ) (h : House) → read s ≡ taken h → Allowed h
+allowed_by s h e =
     let p = passed s (ap is_taken e) in
-    let q : (house_of s).n ≡ h.n = ap count (sym (takes s p) ∙ e) in
-    let r = people_is s in
-    omega (arith, p.some)
-  where
-    count : Reading → ℕ
-    count (taken h) = h.n
-    count (refused at) = 0
+    let t : read s ≡ taken (house_of s) = takes s p in
+    let q : house_of s ≡ h = cc in
+    subst Allowed q (allowed s p)
 
 -- An accepted sheet was read with its group, is of the right length and passed all tests. Its rents are those of each room's tenant, so the list of
 -- them is the one made from the rooms and rows, and its cents are those of that list.
@@ -252,13 +248,13 @@ accepted_fair group sheet e = by (read group) refl
         ext_get_or (pos 0) c.rents (rents_of h c.room c.d) (rents_long n sheet ∙ sym (length-map-range_with_len (λ r. due h c.room c.d (whose h c.room r)) 0 n))
         (λ x m.
         let k : x < n = let z = rents_long n sheet in omega arith in
-        differs_false _ _ (no_rent_fault h c q.0.housed q.0.rents x k) ∙ sym (rent_at h c q.0.housed (someone group h r) x k)) in
+        differs_false _ _ (no_rent_fault h c q.0.housed q.0.rents x k) ∙ sym (rent_at h c q.0.housed (allowed_by group h r).some x k)) in
         record {
           house = h;
           taken_as = r;
           long = l;
           shown = q.0;
-          means = shown_fairest h c (someone group h r) q.0;
+          means = shown_fairest h c (allowed_by group h r).some q.0;
           rents = t;
           cents =
               ext_get_or (pos 0) s.cents (cents_of n h.rent (rents_of h c.room c.d)) (sheet_cents_long n sheet ∙ sym (cents_long n h.rent (rents_of h c.room c.d)))
@@ -275,14 +271,6 @@ accepted_fair group sheet e = by (read group) refl
 
 pub fair_accepted : FairAccepted
 fair_accepted group sheet h e l shown right = sym (judged_sheet group sheet h e l) ∙ shown_accepted h (sheet_of h.n sheet) shown right
-
--- Bytes that are taken speak of a house within the bounds.
-allowed_by : (s : List ℕ) (h : House) → read s ≡ taken h → Allowed h
-allowed_by s h e =
-    let p = passed s (ap is_taken e) in
-    let t : read s ≡ taken (house_of s) = takes s p in
-    let q : house_of s ≡ h = cc in
-    subst Allowed q (allowed s p)
 
 -- No row is longer than the highest worth: with the way back from its end to its beginning it is not above 0, and that way is at least what the room at
 -- the end is not worth to who has it.

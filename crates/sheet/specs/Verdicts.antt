@@ -1,5 +1,5 @@
 -- The number and the place of each verdict, and what verdicts mean. Assumes nothing: these are definitions and statements.
-use Rattle.std.specs.Prelude.{◌+◌, ◌<◌}
+use Rattle.std.specs.Prelude.{◌≡◌, ◌+◌, ◌<◌}
 use Rattle.sheet.specs.declared.verdict.Verdict.{Verdict}
 use Rattle.sheet.specs.declared.verdict.Verdict.TheVariants.{Accepted, Group, Length, Rooms, Numbers, Rows, Way, Rent, Cents}
 use Rattle.rooms.specs.Refused.{number_of, place_of}
@@ -28,3 +28,7 @@ Plain (Rows person) = Unit {0}
 Plain (Way from to) = to < 32
 Plain (Rent room) = room < 32
 Plain (Cents room) = Unit {0}
+
+-- Of plain verdicts, no two have the same number and place.
+abbrev pub OneVerdict : Type 0
+OneVerdict = (v w : Verdict) → Plain v → Plain w → meaning v ≡ meaning w → v ≡ w

@@ -5,7 +5,7 @@ ghost use Rattle.rents.specs.Shown.{Whole};
 ghost use Rattle.sheet.specs.Accepted.{AcceptedFair, AcceptedMeans, AcceptedPayable, AcceptedShown, FairAccepted, Payable, RefusedFalse, ShownAccepted};
 ghost use Rattle.sheet.specs.Entries.{claimed, entered};
 ghost use Rattle.sheet.specs.Judge.{judge, judge_sheet};
-ghost use Rattle.sheet.specs.Verdicts.{Plain, meaning};
+ghost use Rattle.sheet.specs.Verdicts.{OneVerdict, Plain, meaning};
 ghost use Rattle.sheet.specs.declared.verdict.Verdict.TheVariants.{Accepted};
 
 use super::entries::{Entries, read_entries};
@@ -72,8 +72,8 @@ fn check_entries(group: &Group, entries: &Entries) -> Verdict
     Verdict::Accepted
 }
 
-// What verdicts mean: what is accepted is shown with the right cents, and so is the fairest; whatever is so is accepted; and each refusal names what
-// is false.
+// What verdicts mean: what is accepted is shown with the right cents, and so is the fairest and can be paid; whatever is so is accepted; each refusal
+// names what is false; and a number and a place are those of one verdict alone.
 pub fn verdicts_stand()
     ensures accepted { AcceptedShown }
     ensures shown { ShownAccepted }
@@ -81,4 +81,5 @@ pub fn verdicts_stand()
     ensures payable { AcceptedPayable }
     ensures all { FairAccepted }
     ensures refused { RefusedFalse }
+    ensures one { OneVerdict }
 {}

@@ -3,7 +3,8 @@
 #![tactic(auto)]
 
 ghost use Rattle.std.specs.Prelude.{◌≡◌, ℕ, ◌+◌, ◌*◌, ◌^◌, ◌<◌, ◌≤◌, ◌++◌, length, drop, replicate};
-ghost use Rattle.rooms.specs.Format.{most_people, most_worth, house_of, Allowed};
+ghost use Rattle.rooms.specs.Format.{most_people, most_worth, Allowed};
+ghost use Rattle.rooms.specs.View.{house};
 ghost use Rattle.assignment.specs.Search.{at};
 ghost use Rattle.assignment.specs.Answer.{sharing_of, persons_of, prices_of, round_looks, looks_of, array_of, work_for};
 ghost use Rattle.assignment.specs.Promise.{Solved, Few, AllAnswered, Found};
@@ -36,14 +37,14 @@ pub fn work_len(n: usize) -> usize
 
 // The best sharing of a group's house: the first n of rooms say who gets which. All else is done on the first work_len(n) of work, which are 0 after.
 pub fn assign(group: &Group, rooms: &mut [u32], work: &mut [u64]) -> Assignment
-    requires { ((house_of group.now.bytes.now).n ≤ length rooms.old) × (work_for (house_of group.now.bytes.now).n ≤ length work.old) }
-    ensures sharing { rooms.new ≡ sharing_of (house_of group.now.bytes.now) ++ drop (house_of group.now.bytes.now).n rooms.old }
-    ensures persons { result.persons ≡ array_of (persons_of (house_of group.now.bytes.now)) }
-    ensures prices { result.rooms ≡ array_of (prices_of (house_of group.now.bytes.now)) }
-    ensures count { result.looks ≡ looks_of (house_of group.now.bytes.now) }
-    ensures clean { work.new ≡ replicate (work_for (house_of group.now.bytes.now).n) 0 ++ drop (work_for (house_of group.now.bytes.now).n) work.old }
-    ensures solved { Solved (house_of group.now.bytes.now) most_worth rooms.new result.persons result.rooms }
-    ensures few { Few (house_of group.now.bytes.now).n (round_looks (house_of group.now.bytes.now)) result.looks }
+    requires { ((house group.now).n ≤ length rooms.old) × (work_for (house group.now).n ≤ length work.old) }
+    ensures sharing { rooms.new ≡ sharing_of (house group.now) ++ drop (house group.now).n rooms.old }
+    ensures persons { result.persons ≡ array_of (persons_of (house group.now)) }
+    ensures prices { result.rooms ≡ array_of (prices_of (house group.now)) }
+    ensures count { result.looks ≡ looks_of (house group.now) }
+    ensures clean { work.new ≡ replicate (work_for (house group.now).n) 0 ++ drop (work_for (house group.now).n) work.old }
+    ensures solved { Solved (house group.now) most_worth rooms.new result.persons result.rooms }
+    ensures few { Few (house group.now).n (round_looks (house group.now)) result.looks }
 {
     let n = group.count();
     let wanted = work_len(n);
@@ -54,12 +55,12 @@ pub fn assign(group: &Group, rooms: &mut [u32], work: &mut [u64]) -> Assignment
 
 // The answer on slices of just the lengths wanted; work is cut into a row for each person and seven lists.
 fn solve(group: &Group, n: usize, rooms: &mut [u32], work: &mut [u64]) -> Assignment
-    requires people { (n ≡ (house_of group.now.bytes.now).n) × (Allowed (house_of group.now.bytes.now)) }
+    requires people { (n ≡ (house group.now).n) × (Allowed (house group.now)) }
     requires sizes { (length rooms.old ≡ n) × (length work.old ≡ work_for n) }
-    ensures sharing { rooms.new ≡ sharing_of (house_of group.now.bytes.now) }
-    ensures persons { result.persons ≡ array_of (persons_of (house_of group.now.bytes.now)) }
-    ensures prices { result.rooms ≡ array_of (prices_of (house_of group.now.bytes.now)) }
-    ensures count { result.looks ≡ looks_of (house_of group.now.bytes.now) }
+    ensures sharing { rooms.new ≡ sharing_of (house group.now) }
+    ensures persons { result.persons ≡ array_of (persons_of (house group.now)) }
+    ensures prices { result.rooms ≡ array_of (prices_of (house group.now)) }
+    ensures count { result.looks ≡ looks_of (house group.now) }
 {
     let (rows, rest) = work.split_at_mut(n * n);
     let (u, rest) = rest.split_at_mut(n);

@@ -1,7 +1,8 @@
 // The rounds: in round p person p is placed, the numbers are moved, and rooms are handed on.
 ghost use Rattle.std.specs.Prelude.{◌≡◌, ℕ, ◌+◌, ◌-◌, ◌*◌, ◌<◌, ◌≤◌, length};
 ghost use Rattle.rooms.specs.House.{worth_at};
-ghost use Rattle.rooms.specs.Format.{most_worth, house_of, Allowed};
+ghost use Rattle.rooms.specs.Format.{most_worth, Allowed};
+ghost use Rattle.rooms.specs.View.{house};
 ghost use Rattle.assignment.specs.Search.{at};
 ghost use Rattle.assignment.specs.Run.{raised, lowered, held, swapped, handed, state, round_of, looks_in, beginning, after, looks_to};
 ghost use Rattle.assignment.specs.Between.{Held, Stands};
@@ -78,12 +79,12 @@ fn round(
     parent: &mut [u64],
     reached: &mut [u64],
 ) -> u64
-    requires people { (n ≡ (house_of group.now.bytes.now).n) × ((Allowed (house_of group.now.bytes.now)) × (p < n)) }
-    requires stands { Stands n most_worth (worth_at (house_of group.now.bytes.now)) p (state u.old v.old room.old holder.old) }
+    requires people { (n ≡ (house group.now).n) × ((Allowed (house group.now)) × (p < n)) }
+    requires stands { Stands n most_worth (worth_at (house group.now)) p (state u.old v.old room.old holder.old) }
     requires sizes { (length rows.old ≡ n * n) × ((length distance.old ≡ n) × ((length parent.old ≡ n) × (length reached.old ≡ n))) }
     ensures model { state u.new v.new room.new holder.new
-        ≡ round_of (worth_at (house_of group.now.bytes.now)) n p (state u.old v.old room.old holder.old) }
-    ensures count { result ≡ looks_in (worth_at (house_of group.now.bytes.now)) n p (state u.old v.old room.old holder.old) }
+        ≡ round_of (worth_at (house group.now)) n p (state u.old v.old room.old holder.old) }
+    ensures count { result ≡ looks_in (worth_at (house group.now)) n p (state u.old v.old room.old holder.old) }
 {
     let (last, joins) = grow(
         group, n, p, u, v, room, holder, rows, distance, parent, reached,
@@ -123,12 +124,12 @@ pub fn place_all(
     parent: &mut [u64],
     reached: &mut [u64],
 ) -> u64
-    requires people { (n ≡ (house_of group.now.bytes.now).n) × (Allowed (house_of group.now.bytes.now)) }
+    requires people { (n ≡ (house group.now).n) × (Allowed (house group.now)) }
     requires lists { (length u.old ≡ n) × ((length v.old ≡ n) × ((length room.old ≡ n) × (length holder.old ≡ n))) }
     requires sizes { (length rows.old ≡ n * n) × ((length distance.old ≡ n) × ((length parent.old ≡ n) × (length reached.old ≡ n))) }
-    ensures model { state u.new v.new room.new holder.new ≡ after (worth_at (house_of group.now.bytes.now)) n most_worth n }
-    ensures count { result ≡ looks_to (worth_at (house_of group.now.bytes.now)) n most_worth n }
-    ensures stands { Stands n most_worth (worth_at (house_of group.now.bytes.now)) n (state u.new v.new room.new holder.new) }
+    ensures model { state u.new v.new room.new holder.new ≡ after (worth_at (house group.now)) n most_worth n }
+    ensures count { result ≡ looks_to (worth_at (house group.now)) n most_worth n }
+    ensures stands { Stands n most_worth (worth_at (house group.now)) n (state u.new v.new room.new holder.new) }
 {
     begin(n, u, v, room, holder);
     let mut looks = 0;

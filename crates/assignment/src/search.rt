@@ -1,7 +1,8 @@
 // The search of one round: from a person, by shortest ways, to the nearest room that nobody placed holds.
 ghost use Rattle.std.specs.Prelude.{◌≡◌, ℕ, ◌+◌, ◌-◌, ◌*◌, ◌<◌, ◌≤◌, length};
 ghost use Rattle.rooms.specs.House.{worth_at};
-ghost use Rattle.rooms.specs.Format.{most_people, most_worth, house_of};
+ghost use Rattle.rooms.specs.Format.{most_people, most_worth};
+ghost use Rattle.rooms.specs.View.{house};
 ghost use Rattle.assignment.specs.Search.{at, list_of, offers, with_row, nearer, parents, is_closer, nearest_of, tree, tree_of};
 ghost use Rattle.assignment.specs.Run.{state};
 ghost use Rattle.assignment.specs.Between.{Ready, Stands};
@@ -46,11 +47,11 @@ fn relax(
     distance: &mut [u64],
     parent: &mut [u64],
 )
-    requires ready { (Ready n most_worth (worth_at (house_of group.now.bytes.now)) u.now v.now) × ((n ≡ (house_of group.now.bytes.now).n) × ((i < n) × (d ≤ 2 * most_worth))) }
+    requires ready { (Ready n most_worth (worth_at (house group.now)) u.now v.now) × ((n ≡ (house group.now).n) × ((i < n) × (d ≤ 2 * most_worth))) }
     requires sizes { (length rows.old ≡ n * n) × ((length distance.old ≡ n) × (length parent.old ≡ n)) }
-    ensures row { rows.new ≡ with_row n i rows.old (offers (worth_at (house_of group.now.bytes.now)) n u.now v.now i d) }
-    ensures near { distance.new ≡ nearer n (offers (worth_at (house_of group.now.bytes.now)) n u.now v.now i d) distance.old }
-    ensures by { parent.new ≡ parents n i (offers (worth_at (house_of group.now.bytes.now)) n u.now v.now i d) distance.old parent.old }
+    ensures row { rows.new ≡ with_row n i rows.old (offers (worth_at (house group.now)) n u.now v.now i d) }
+    ensures near { distance.new ≡ nearer n (offers (worth_at (house group.now)) n u.now v.now i d) distance.old }
+    ensures by { parent.new ≡ parents n i (offers (worth_at (house group.now)) n u.now v.now i d) distance.old parent.old }
 {
     let mine = group.row(i);
     let row = &mut rows[i * n..i * n + n];
@@ -70,10 +71,10 @@ fn start(
     parent: &mut [u64],
     reached: &mut [u64],
 )
-    requires ready { (Ready n most_worth (worth_at (house_of group.now.bytes.now)) u.now v.now) × ((n ≡ (house_of group.now.bytes.now).n) × (p < n)) }
+    requires ready { (Ready n most_worth (worth_at (house group.now)) u.now v.now) × ((n ≡ (house group.now).n) × (p < n)) }
     requires sizes { (length rows.old ≡ n * n) × ((length distance.old ≡ n) × ((length parent.old ≡ n) × (length reached.old ≡ n))) }
-    ensures row { rows.new ≡ with_row n p rows.old (offers (worth_at (house_of group.now.bytes.now)) n u.now v.now p 0) }
-    ensures near { distance.new ≡ offers (worth_at (house_of group.now.bytes.now)) n u.now v.now p 0 }
+    ensures row { rows.new ≡ with_row n p rows.old (offers (worth_at (house group.now)) n u.now v.now p 0) }
+    ensures near { distance.new ≡ offers (worth_at (house group.now)) n u.now v.now p 0 }
     ensures by { parent.new ≡ list_of (λ _. p) n }
     ensures fresh { reached.new ≡ list_of (λ _. 0) n }
 {
@@ -123,12 +124,12 @@ pub fn grow(
     parent: &mut [u64],
     reached: &mut [u64],
 ) -> (usize, u64)
-    requires people { (n ≡ (house_of group.now.bytes.now).n) × ((n ≤ most_people) × (p < n)) }
-    requires stands { Stands n most_worth (worth_at (house_of group.now.bytes.now)) p (state u.now v.now room.now holder.now) }
+    requires people { (n ≡ (house group.now).n) × ((n ≤ most_people) × (p < n)) }
+    requires stands { Stands n most_worth (worth_at (house group.now)) p (state u.now v.now room.now holder.now) }
     requires sizes { (length rows.old ≡ n * n) × ((length distance.old ≡ n) × ((length parent.old ≡ n) × (length reached.old ≡ n))) }
     ensures here { (result.0 < n) × (result.1 ≤ p + 1) }
     ensures model { tree result.0 result.1 distance.new parent.new reached.new
-        ≡ tree_of (worth_at (house_of group.now.bytes.now)) n p u.now v.now holder.now }
+        ≡ tree_of (worth_at (house group.now)) n p u.now v.now holder.now }
 {
     start(group, n, u, v, p, rows, distance, parent, reached);
     for k in 0..n {

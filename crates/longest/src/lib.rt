@@ -4,9 +4,10 @@
 
 ghost use Rattle.std.specs.Prelude.{◌≡◌, ℕ, ◌+◌, ◌-◌, ◌*◌, ◌<◌, ◌≤◌, ◌++◌, map, length, drop, replicate};
 ghost use Rattle.std.specs.List.{range_with_len};
-ghost use Rattle.rooms.specs.Format.{most_people, most_worth, house_of};
+ghost use Rattle.rooms.specs.Format.{most_people, most_worth};
 ghost use Rattle.rooms.specs.Rows.{Longest, signed};
 ghost use Rattle.rooms.specs.Before.{RowsShown};
+ghost use Rattle.rooms.specs.View.{house};
 ghost use Rattle.assignment.specs.Search.{at};
 ghost use Rattle.longest.specs.Run.{slack, in_table, Table, offers, through, first_offers, state, nearer, run, start};
 ghost use Rattle.assignment.specs.Promise.{Solved};
@@ -45,14 +46,14 @@ pub fn longest_rows(
     prices: [u64; MOST_PEOPLE],
     work: &mut [u64],
 ) -> LongestRows
-    requires solved { Solved (house_of group.now.bytes.now) most_worth rooms.now persons prices }
-    requires enough { work_len (house_of group.now.bytes.now).n ≤ length work.old }
-    ensures found { Found (house_of group.now.bytes.now) rooms.now persons prices result.d result.before result.rounds }
-    ensures shown { RowsShown (house_of group.now.bytes.now) rooms.now (signed result.d) result.before }
-    ensures longest { Longest (house_of group.now.bytes.now) rooms.now (signed result.d) }
+    requires solved { Solved (house group.now) most_worth rooms.now persons prices }
+    requires enough { work_len (house group.now).n ≤ length work.old }
+    ensures found { Found (house group.now) rooms.now persons prices result.d result.before result.rounds }
+    ensures shown { RowsShown (house group.now) rooms.now (signed result.d) result.before }
+    ensures longest { Longest (house group.now) rooms.now (signed result.d) }
     ensures high { (i : ℕ) → at result.d i ≤ most_worth }
-    ensures few { result.rounds < (house_of group.now.bytes.now).n }
-    ensures clean { work.new ≡ replicate (work_len (house_of group.now.bytes.now).n) 0 ++ drop (work_len (house_of group.now.bytes.now).n) work.old }
+    ensures few { result.rounds < (house group.now).n }
+    ensures clean { work.new ≡ replicate (work_len (house group.now).n) 0 ++ drop (work_len (house group.now).n) work.old }
 {
     let n = group.count();
     let needed = work_len(n);
@@ -112,10 +113,10 @@ fn write_table(
     prices: [u64; MOST_PEOPLE],
     table: &mut [u64],
 )
-    requires group { (n ≡ (house_of group.now.bytes.now).n) × (n ≤ most_people) }
-    requires solved { Solved (house_of group.now.bytes.now) most_worth rooms.now persons prices }
+    requires group { (n ≡ (house group.now).n) × (n ≤ most_people) }
+    requires solved { Solved (house group.now) most_worth rooms.now persons prices }
     requires size { length table.old ≡ n * n }
-    ensures { (k i : ℕ) → k < n → i < n → in_table table.new n k i ≡ slack (house_of group.now.bytes.now) rooms.now persons prices k i }
+    ensures { (k i : ℕ) → k < n → i < n → in_table table.new n k i ≡ slack (house group.now) rooms.now persons prices k i }
 {
     for i in 0..n {
         let mine = group.row(i);
@@ -233,10 +234,10 @@ fn find(
     prices: [u64; MOST_PEOPLE],
     table: &mut [u64],
 ) -> LongestRows
-    requires group { (n ≡ (house_of group.now.bytes.now).n) × ((0 < n) × (n ≤ most_people)) }
-    requires solved { Solved (house_of group.now.bytes.now) most_worth rooms.now persons prices }
+    requires group { (n ≡ (house group.now).n) × ((0 < n) × (n ≤ most_people)) }
+    requires solved { Solved (house group.now) most_worth rooms.now persons prices }
     requires size { length table.old ≡ n * n }
-    ensures { Found (house_of group.now.bytes.now) rooms.now persons prices result.d result.before result.rounds }
+    ensures { Found (house group.now) rooms.now persons prices result.d result.before result.rounds }
 {
     write_table(group, n, rooms, persons, prices, table);
     let mut left = persons;

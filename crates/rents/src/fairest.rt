@@ -3,8 +3,9 @@
 ghost use Rattle.std.specs.Prelude.{◌≡◌, ℕ, ◌-◌, ◌^◌, ◌≤◌, ◌++◌, map, length, drop, replicate, pos, ◌+ℤ◌, ◌-ℤ◌, ◌*ℤ◌, slice_index};
 ghost use Rattle.std.specs.List.{range_with_len};
 ghost use Rattle.rooms.specs.House.{Housed, joint as joint_of, sum as total};
-ghost use Rattle.rooms.specs.Format.{most_people, most_worth, house_of, Allowed};
+ghost use Rattle.rooms.specs.Format.{most_people, most_worth, Allowed};
 ghost use Rattle.rooms.specs.Rows.{number, signed};
+ghost use Rattle.rooms.specs.View.{house};
 ghost use Rattle.whole.specs.Bounds.{Within};
 ghost use Rattle.rents.specs.Rents.{rents_of, spare as spare_of};
 ghost use Rattle.rents.specs.Answer.{Measured, Fair, bits, held, gains_of, RentsSmall, RentsRoundable};
@@ -29,14 +30,14 @@ pub fn fairest_rents(
     d: [u64; MOST_PEOPLE],
     rents: &mut [u64],
 ) -> Outcome
-    requires measured { Measured (house_of group.now.bytes.now) rooms.now d }
-    requires enough { (house_of group.now.bytes.now).n ≤ length rents.old }
-    ensures rents { rents.new ≡ bits (rents_of (house_of group.now.bytes.now) rooms.now (signed d)) ++ drop (house_of group.now.bytes.now).n rents.old }
-    ensures joint { result.joint ≡ joint_of (house_of group.now.bytes.now) rooms.now }
-    ensures least { result.least ≡ spare_of (house_of group.now.bytes.now) rooms.now (signed d) }
-    ensures gains { result.gains ≡ gains_of (house_of group.now.bytes.now) rooms.now (signed d) }
-    ensures held { held (house_of group.now.bytes.now).n rents.new ≡ rents_of (house_of group.now.bytes.now) rooms.now (signed d) }
-    ensures fair { Fair (house_of group.now.bytes.now) rooms.now (signed d) (held (house_of group.now.bytes.now).n rents.new) result.least }
+    requires measured { Measured (house group.now) rooms.now d }
+    requires enough { (house group.now).n ≤ length rents.old }
+    ensures rents { rents.new ≡ bits (rents_of (house group.now) rooms.now (signed d)) ++ drop (house group.now).n rents.old }
+    ensures joint { result.joint ≡ joint_of (house group.now) rooms.now }
+    ensures least { result.least ≡ spare_of (house group.now) rooms.now (signed d) }
+    ensures gains { result.gains ≡ gains_of (house group.now) rooms.now (signed d) }
+    ensures held { held (house group.now).n rents.new ≡ rents_of (house group.now) rooms.now (signed d) }
+    ensures fair { Fair (house group.now) rooms.now (signed d) (held (house group.now).n rents.new) result.least }
 {
     let n = group.count();
     let joint = joint_worth(group, n, rooms);
@@ -58,9 +59,9 @@ pub fn answer_stands()
 
 // What everybody's own room is worth to them, together.
 fn joint_worth(group: &Group, n: usize, rooms: &[u32]) -> i64
-    requires people { (n ≡ (house_of group.now.bytes.now).n) × (Allowed (house_of group.now.bytes.now)) }
-    requires housed { Housed (house_of group.now.bytes.now) rooms.now }
-    ensures { result ≡ joint_of (house_of group.now.bytes.now) rooms.now }
+    requires people { (n ≡ (house group.now).n) × (Allowed (house group.now)) }
+    requires housed { Housed (house group.now) rooms.now }
+    ensures { result ≡ joint_of (house group.now) rooms.now }
 {
     let mut worths = 0;
     for i in 0..n {
@@ -83,9 +84,9 @@ fn all_lengths(n: usize, d: [u64; MOST_PEOPLE]) -> i64
 
 // What is left of the joint worth when the rent and all lengths are taken from it.
 fn left_over(group: &Group, n: usize, d: [u64; MOST_PEOPLE], joint: i64) -> i64
-    requires people { (n ≡ (house_of group.now.bytes.now).n) × (n ≤ most_people) }
+    requires people { (n ≡ (house group.now).n) × (n ≤ most_people) }
     requires small { (((i : ℕ) → slice_index d i ≤ most_worth)) × (Within (2 ^ 60) joint) }
-    ensures { result ≡ (joint -ℤ pos (house_of group.now.bytes.now).rent) -ℤ total (λ i. number (signed d) i) n }
+    ensures { result ≡ (joint -ℤ pos (house group.now).rent) -ℤ total (λ i. number (signed d) i) n }
 {
     difference(difference(joint, group.rent() as i64), all_lengths(n, d))
 }
@@ -118,10 +119,10 @@ fn write_rents(
     spare: i64,
     rents: &mut [u64],
 )
-    requires people { (n ≡ (house_of group.now.bytes.now).n) × (Allowed (house_of group.now.bytes.now)) }
-    requires measured { (Measured (house_of group.now.bytes.now) rooms.now d) × (spare ≡ spare_of (house_of group.now.bytes.now) rooms.now (signed d)) }
+    requires people { (n ≡ (house group.now).n) × (Allowed (house group.now)) }
+    requires measured { (Measured (house group.now) rooms.now d) × (spare ≡ spare_of (house group.now) rooms.now (signed d)) }
     requires enough { n ≤ length rents.old }
-    ensures { rents.new ≡ bits (rents_of (house_of group.now.bytes.now) rooms.now (signed d)) ++ drop n rents.old }
+    ensures { rents.new ≡ bits (rents_of (house group.now) rooms.now (signed d)) ++ drop n rents.old }
 {
     for i in 0..n {
         let r = rooms[i] as usize;

@@ -1,7 +1,17 @@
 -- The first number at which a test holds: the test fails before it, holds at it, and there is only one such number.
-use Rattle.std.proofs.Common.{◌≡◌, ℕ, zero, suc, ◌<◌, ◌≤◌, Bool, true, false, cond, eqb, ltb, ◌⊎◌, Decides, refl, ap, ◌∙◌, inl, inr, arith}
+use Rattle.std.proofs.Common.{◌≡◌, ℕ, zero, suc, ◌<◌, sym, ◌≤◌, Bool, true, false, cond, eqb, ltb, ◌⊎◌, Decides, refl, ap, ◌∙◌, inl, inr, arith}
 use Rattle.std.proofs.lemmas.Bool.{le-ltb, ltb-true, ltb-false, eqb-true, eq-eqb, both_ways, cases_Bool, cases_eq}
-use Rattle.rooms.specs.First.{first, or_here, some}
+use Rattle.std.proofs.lemmas.Iterator.{first_from_Range}
+use Rattle.std.proofs.iter.Yields.{nat_range_steps}
+use Rattle.std.proofs.Common.{List, Option, Some, None, Bor}
+use Rattle.std.specs.Bool.{⊤}
+use Rattle.std.specs.Fn.{CalledAt}
+use Rattle.std.specs.Iterator.{YieldsThen}
+use Rattle.std.specs.List.{FoldsTo}
+use Rattle.std.specs.Option.{MatchOption}
+use Rattle.std.specs.declared.ops.Range.{Range}
+use denote.Param.Members.{Mut}
+use Rattle.rooms.specs.First.{first, found, or_here, some}
 
 -- What one more number does: a first one stays, else it is this number or the one after.
 pub first_more : (t : ℕ → Bool) (n : ℕ) →
@@ -91,3 +101,18 @@ false_some t n h = le-ltb _ _ (omega (arith, first_none t n h))
 pub true_some : (t : ℕ → Bool) (n k : ℕ) → k < n → t k ≡ true → some t n ≡ true
 true_some t n k l e =
     elim (cases_Bool (some t n)) [ inl s ↦ s | inr s ↦ absurd (both_ways (t k) (some_false t n s k l) e) ]
+
+-- What `find` over the numbers below n answers, where the closure is the test.
+pub found_from_Range : {F : Type 0} {g : Mut F (Bor ℕ × Unit {0}) Bool} (t : ℕ → Bool) (n : ℕ) (u : Range ℕ) (f : F) (r : Option ℕ) →
+    (xs : List ℕ) × (j : F) × YieldsThen nat_range_steps (record { start = 0; end = n }) xs r u × FoldsTo (λ p x q. CalledAt g p x false q) f xs j ×
+    MatchOption r ⊤ (λ x. (h : F) × CalledAt g j x true h) →
+    ((x : ℕ) (b : Bool) (q : F) → CalledAt g f x b q → (q ≡ f) × (b ≡ t x)) → r ≡ found t n
+found_from_Range t n u f r ran test =
+    go r (first_from_Range _ u f r (λ x. t x ≡ true) (λ x. t x ≡ false) ran (λ x q k. sym (test x true q k).1) (λ x q k. let a = test x false q k in (a.0, sym a.1)))
+  where
+    go : (r : Option ℕ) →
+        MatchOption r ((k : ℕ) → 0 ≤ k → k < n → t k ≡ false) (λ i. (0 ≤ i) × (i < n) × (t i ≡ true) × ((k : ℕ) → 0 ≤ k → k < i → t k ≡ false)) → r ≡ found t n
+    go None h = ap (λ b. cond b (Some (first t n)) None) (sym (false_some t n (λ k l. h k (omega arith) l)))
+    go (Some i) h =
+        let e = first_is t n i h.1 h.2 (λ k l. h.3 k (omega arith) l) in
+        ap Some (sym e) ∙ ap (λ b. cond b (Some (first t n)) None) (sym (true_some t n i h.1 h.2))

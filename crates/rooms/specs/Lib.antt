@@ -8,3 +8,4 @@ pub mod Bytes
 pub mod Format
 pub mod Roundtrip
 pub mod Refused
+pub mod View

@@ -1,7 +1,8 @@
 // A group's bytes: looked at once, then read as a house.
-ghost use Rattle.std.specs.Prelude.{◌≡◌, ℕ, ◌+◌, ◌*◌, ◌<◌, ◌≤◌, true, length, MatchResult, slice_index};
+ghost use Rattle.std.specs.Prelude.{◌≡◌, ℕ, ◌+◌, ◌*◌, ◌<◌, ◌≤◌, true, length, MatchResult, slice_index, nat_lt};
+ghost use Rattle.rooms.specs.First.{found};
 ghost use Rattle.rooms.specs.House.{worth_at};
-ghost use Rattle.rooms.specs.Format.{most_people, Allowed, word, people, group_length, worth_place, worth_word, first_large, house_of, row_of, read, is_taken, taken, refused};
+ghost use Rattle.rooms.specs.Format.{most_people, most_worth, Allowed, word, people, group_length, worth_place, worth_word, house_of, row_of, read, is_taken, taken, refused};
 ghost use Rattle.rooms.specs.Refused.{number_of, place_of};
 ghost use Rattle.rooms.specs.Roundtrip.{ReadsBack, WritesBack};
 
@@ -43,17 +44,12 @@ fn worth_word(bytes: &[u8], k: usize) -> u32
     word_at(bytes, HEAD + 4 * k)
 }
 
-// The first worth above the bound; n * n where there is none.
-fn first_large(bytes: &[u8], n: usize) -> usize
+// The first worth above the bound.
+fn first_large(bytes: &[u8], n: usize) -> Option<usize>
     requires { (n ≤ most_people) × (length bytes.now ≡ group_length n) }
-    ensures { result ≡ first_large bytes.now n }
+    ensures { result ≡ found (λ k. nat_lt most_worth (worth_word bytes.now k)) (n * n) }
 {
-    for k in 0..n * n {
-        if worth_word(bytes, k) > MOST_WORTH {
-            return k;
-        }
-    }
-    n * n
+    (0..n * n).find(|k| worth_word(bytes, *k) > MOST_WORTH)
 }
 
 // The format loses nothing: a house's bytes are read back as that house, and bytes that are taken are just their house's.
@@ -63,6 +59,8 @@ pub fn format_stands()
 {}
 
 impl<'a> Group<'a> {
+    ghost use Rattle.rooms.specs.View.{house};
+
     // Whether the bytes are a group's, or why not.
     pub fn validate(bytes: &[u8]) -> Result<(), Refusal>
         ensures { MatchResult result (λ _. read bytes.now ≡ taken (house_of bytes.now)) (λ e. read bytes.now ≡ refused (number_of e, place_of e)) }
@@ -84,11 +82,10 @@ impl<'a> Group<'a> {
         if word_at(bytes, 1) > MOST_RENT {
             return Err(Refusal::Rent);
         }
-        let k = first_large(bytes, n);
-        if k < n * n {
-            return Err(Refusal::Worth(HEAD + 4 * k));
+        match first_large(bytes, n) {
+            Some(k) => Err(Refusal::Worth(HEAD + 4 * k)),
+            None => Ok(()),
         }
-        Ok(())
     }
 
     // The group of bytes that have been looked at.
@@ -104,38 +101,51 @@ impl<'a> Group<'a> {
 
     // How many people, and rooms.
     pub fn count(&self) -> usize
-        ensures people { result ≡ (house_of self.now.bytes.now).n }
-        ensures allowed { Allowed (house_of self.now.bytes.now) }
+        ensures people { result ≡ (house self.now).n }
+        ensures allowed { Allowed (house self.now) }
     {
         self.n
     }
 
     // The rent of the whole house.
     pub fn rent(&self) -> u32
-        ensures { result ≡ (house_of self.now.bytes.now).rent }
+        ensures { result ≡ (house self.now).rent }
     {
         word_at(self.bytes, 1)
     }
 
     // What room r is worth to person i.
     pub fn worth(&self, i: usize, r: usize) -> u32
-        requires { (i < (house_of self.now.bytes.now).n) × (r < (house_of self.now.bytes.now).n) }
-        ensures { result ≡ worth_at (house_of self.now.bytes.now) i r }
+        requires { (i < (house self.now).n) × (r < (house self.now).n) }
+        ensures { result ≡ worth_at (house self.now) i r }
     {
         worth_word(self.bytes, i * self.n + r)
     }
 
     // What each room is worth to person i, and nothing past the n rooms.
     pub fn row(&self, i: usize) -> [u32; MOST_PEOPLE]
-        requires { i < (house_of self.now.bytes.now).n }
-        ensures whole { result ≡ row_of (house_of self.now.bytes.now) i }
-        ensures each { (r : ℕ) → slice_index result r ≡ worth_at (house_of self.now.bytes.now) i r }
+        requires { i < (house self.now).n }
+        ensures whole { result ≡ row_of (house self.now) i }
+        ensures each { (r : ℕ) → slice_index result r ≡ worth_at (house self.now) i r }
     {
-        let n = self.n;
         let mut mine = [0; MOST_PEOPLE];
-        for r in 0..n {
-            mine[r] = worth_word(self.bytes, i * n + r);
+        let worths = &mut mine[0..self.n];
+        for (r, worth) in worths.iter_mut().enumerate() {
+            *worth = worth_word(self.bytes, i * self.n + r);
         }
         mine
+    }
+}
+
+impl<'a> TryFrom<&'a [u8]> for Group<'a> {
+    ghost use Rattle.rooms.specs.View.{Reads};
+
+    type Error = Refusal;
+
+    ghost try_from_gives = { λ bytes. Reads bytes.now };
+
+    fn try_from(bytes: &'a [u8]) -> Result<Group<'a>, Refusal> {
+        Group::validate(bytes)?;
+        Ok(Group::new(bytes))
     }
 }

@@ -7,7 +7,7 @@ pub mod refusal;
 pub mod theory;
 
 pub use group::Group;
-pub use refusal::Refusal;
+pub use refusal::{Lent, Refusal};
 
 #[cfg(test)]
 mod tests;

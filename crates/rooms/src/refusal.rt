@@ -4,6 +4,15 @@ ghost use Rattle.rooms.specs.Refused.{number_of, place_of, refusal_text};
 
 use std::fmt;
 
+// The slices that are lent, in their order.
+#[derive(Clone, Copy, PartialEq, Eq, Debug)]
+pub enum Lent {
+    Rooms,
+    Rents,
+    Work,
+    Sheet,
+}
+
 #[derive(Clone, Copy, PartialEq, Eq, Debug)]
 pub enum Refusal {
     // The bytes end too early, at their length, or go on, at the first too many.
@@ -14,8 +23,8 @@ pub enum Refusal {
     Rent,
     // A worth above the bound, by its first byte.
     Worth(usize),
-    // A lent slice that is too short: rooms, rents, work or sheet, 0 to 3.
-    Slice(usize),
+    // A lent slice that is too short.
+    Slice(Lent),
 }
 
 impl Refusal {
@@ -40,7 +49,7 @@ impl Refusal {
             Refusal::People => 0,
             Refusal::Rent => 1,
             Refusal::Worth(at) => at,
-            Refusal::Slice(which) => which,
+            Refusal::Slice(which) => which as usize,
         }
     }
 }

@@ -1,12 +1,12 @@
 // Checking a group's sheet, whoever wrote it.
 ghost use Rattle.std.specs.Prelude.{◌≡◌};
-ghost use Rattle.rooms.specs.Format.{house_of};
 ghost use Rattle.rents.specs.Shown.{Whole};
 ghost use Rattle.sheet.specs.Accepted.{AcceptedFair, AcceptedMeans, AcceptedPayable, AcceptedShown, FairAccepted, Payable, RefusedFalse, ShownAccepted};
 ghost use Rattle.sheet.specs.Entries.{claimed, entered};
 ghost use Rattle.sheet.specs.Judge.{judge, judge_sheet};
 ghost use Rattle.sheet.specs.Verdicts.{OneVerdict, Plain, meaning};
 ghost use Rattle.sheet.specs.declared.verdict.Verdict.TheVariants.{Accepted};
+ghost use Rattle.rooms.specs.View.{house};
 
 use super::entries::{Entries, read_entries};
 use super::faults::{first_number, first_numbers, first_room};
@@ -23,10 +23,10 @@ pub fn check(group: &[u8], sheet: &[u8]) -> Verdict
     ensures accepted { result ≡ Accepted → AcceptedMeans group.now sheet.now }
     ensures payable { result ≡ Accepted → Payable group.now sheet.now }
 {
-    if let Err(refusal) = Group::validate(group) {
-        return Verdict::Group(refusal);
-    }
-    let house = Group::new(group);
+    let house = match Group::try_from(group) {
+        Ok(house) => house,
+        Err(refusal) => return Verdict::Group(refusal),
+    };
     let n = house.count();
     if sheet.len() != sheet_len(n) {
         return Verdict::Length(sheet.len());
@@ -36,8 +36,8 @@ pub fn check(group: &[u8], sheet: &[u8]) -> Verdict
 
 // The tests in their order.
 fn check_entries(group: &Group, entries: &Entries) -> Verdict
-    requires { Whole (house_of group.now.bytes.now) (claimed (house_of group.now.bytes.now) entries.now) }
-    ensures judged { meaning result ≡ judge_sheet (house_of group.now.bytes.now) (entered (house_of group.now.bytes.now).n entries.now) }
+    requires { Whole (house group.now) (claimed (house group.now) entries.now) }
+    ensures judged { meaning result ≡ judge_sheet (house group.now) (entered (house group.now).n entries.now) }
     ensures plain { Plain result }
 {
     let n = group.count();

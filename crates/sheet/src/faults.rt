@@ -1,7 +1,7 @@
 // The tests of a sheet: each finds the first place at which the entries are at fault.
 ghost use Rattle.std.specs.Prelude.{◌≡◌, ◌<◌, ◌&&◌, ◌||◌, pos, ◌+ℤ◌, int_lt};
 ghost use Rattle.rooms.specs.First.{first, some};
-ghost use Rattle.rooms.specs.Format.{house_of};
+ghost use Rattle.rooms.specs.View.{house};
 ghost use Rattle.rents.specs.Faults.{room_fault, number_fault};
 ghost use Rattle.sheet.specs.Entries.{claimed};
 
@@ -12,7 +12,7 @@ use whole::wide_sum;
 
 // The first person who has no room, or an earlier person's.
 pub fn first_room(group: &Group, entries: &Entries) -> usize
-    ensures { result ≡ first (room_fault (house_of group.now.bytes.now) (claimed (house_of group.now.bytes.now) entries.now)) (house_of group.now.bytes.now).n }
+    ensures { result ≡ first (room_fault (house group.now) (claimed (house group.now) entries.now)) (house group.now).n }
 {
     let n = group.count();
     let mut taken = [false; MOST_PEOPLE];
@@ -40,8 +40,8 @@ fn number_off(person: i64, room: i64, worth: u32, own: bool) -> bool
 
 // The first room whose number and that of person i are at fault.
 pub fn first_number(group: &Group, entries: &Entries, i: usize) -> usize
-    requires { i < (house_of group.now.bytes.now).n }
-    ensures { result ≡ first (number_fault (house_of group.now.bytes.now) (claimed (house_of group.now.bytes.now) entries.now) i) (house_of group.now.bytes.now).n }
+    requires { i < (house group.now).n }
+    ensures { result ≡ first (number_fault (house group.now) (claimed (house group.now) entries.now) i) (house group.now).n }
 {
     let n = group.count();
     let worths = group.row(i);
@@ -57,7 +57,7 @@ pub fn first_number(group: &Group, entries: &Entries, i: usize) -> usize
 
 // The first person with such a room.
 pub fn first_numbers(group: &Group, entries: &Entries) -> usize
-    ensures { result ≡ first (λ i. some (number_fault (house_of group.now.bytes.now) (claimed (house_of group.now.bytes.now) entries.now) i) (house_of group.now.bytes.now).n) (house_of group.now.bytes.now).n }
+    ensures { result ≡ first (λ i. some (number_fault (house group.now) (claimed (house group.now) entries.now) i) (house group.now).n) (house group.now).n }
 {
     let n = group.count();
     for i in 0..n {

@@ -1,9 +1,9 @@
 // The tests of the rents and cents: each is reckoned from the rooms and lengths of the sheet, exactly, whatever its numbers are.
 ghost use Rattle.std.specs.Prelude.{◌≡◌, ℕ, ◌^◌, ◌<◌, pos, ◌-ℤ◌, if◌then◌else◌, int_lt, slice_index};
 ghost use Rattle.rooms.specs.First.{first};
-ghost use Rattle.rooms.specs.Format.{house_of};
 ghost use Rattle.rooms.specs.House.{Housed, room_of, value};
 ghost use Rattle.rooms.specs.Rows.{number};
+ghost use Rattle.rooms.specs.View.{house};
 ghost use Rattle.whole.specs.Bounds.{Within};
 ghost use Rattle.rents.specs.Faults.{rent_fault};
 ghost use Rattle.rents.specs.Rents.{spare, whose};
@@ -19,9 +19,9 @@ use whole::{wide_add, wide_floor, wide_sub, wide_times};
 
 // What their room is worth to person i, less the length of their row.
 fn own_less(group: &Group, entries: &Entries, i: usize) -> i128
-    requires person { i < (house_of group.now.bytes.now).n }
-    requires housed { Housed (house_of group.now.bytes.now) (claimed (house_of group.now.bytes.now) entries.now).room }
-    ensures value { result ≡ value (house_of group.now.bytes.now) i (room_of (claimed (house_of group.now.bytes.now) entries.now).room i) -ℤ number (claimed (house_of group.now.bytes.now) entries.now).d i }
+    requires person { i < (house group.now).n }
+    requires housed { Housed (house group.now) (claimed (house group.now) entries.now).room }
+    ensures value { result ≡ value (house group.now) i (room_of (claimed (house group.now) entries.now).room i) -ℤ number (claimed (house group.now) entries.now).d i }
     ensures within { Within (2 ^ 64) result }
 {
     group.worth(i, entries.room[i] as usize) as i128 - wide_at(&entries.d, i)
@@ -29,8 +29,8 @@ fn own_less(group: &Group, entries: &Entries, i: usize) -> i128
 
 // What is spare when everybody gains the length of their row.
 fn surplus(group: &Group, entries: &Entries) -> i128
-    requires { Housed (house_of group.now.bytes.now) (claimed (house_of group.now.bytes.now) entries.now).room }
-    ensures value { result ≡ spare (house_of group.now.bytes.now) (claimed (house_of group.now.bytes.now) entries.now).room (claimed (house_of group.now.bytes.now) entries.now).d }
+    requires { Housed (house group.now) (claimed (house group.now) entries.now).room }
+    ensures value { result ≡ spare (house group.now) (claimed (house group.now) entries.now).room (claimed (house group.now) entries.now).d }
     ensures within { Within (2 ^ 70) result }
 {
     let n = group.count();
@@ -43,8 +43,8 @@ fn surplus(group: &Group, entries: &Entries) -> i128
 
 // Who has each room.
 fn tenants(group: &Group, entries: &Entries) -> [u8; MOST_PEOPLE]
-    requires { Housed (house_of group.now.bytes.now) (claimed (house_of group.now.bytes.now) entries.now).room }
-    ensures { (r : ℕ) → r < (house_of group.now.bytes.now).n → slice_index result r ≡ whose (house_of group.now.bytes.now) (claimed (house_of group.now.bytes.now) entries.now).room r }
+    requires { Housed (house group.now) (claimed (house group.now) entries.now).room }
+    ensures { (r : ℕ) → r < (house group.now).n → slice_index result r ≡ whose (house group.now) (claimed (house group.now) entries.now).room r }
 {
     let n = group.count();
     let mut tenant = [0; MOST_PEOPLE];
@@ -56,8 +56,8 @@ fn tenants(group: &Group, entries: &Entries) -> [u8; MOST_PEOPLE]
 
 // What all rents and cents are reckoned from: one surplus, and one division.
 pub fn reckon(group: &Group, entries: &Entries) -> Terms
-    requires { Housed (house_of group.now.bytes.now) (claimed (house_of group.now.bytes.now) entries.now).room }
-    ensures { Reckoned (house_of group.now.bytes.now) (claimed (house_of group.now.bytes.now) entries.now) result }
+    requires { Housed (house group.now) (claimed (house group.now) entries.now).room }
+    ensures { Reckoned (house group.now) (claimed (house group.now) entries.now) result }
 {
     let n = group.count() as u32;
     let surplus = surplus(group, entries);
@@ -73,10 +73,10 @@ pub fn reckon(group: &Group, entries: &Entries) -> Terms
 
 // Whether the rent of room r is another than its tenant's.
 pub fn rent_off(group: &Group, entries: &Entries, terms: &Terms, r: usize) -> bool
-    requires room { r < (house_of group.now.bytes.now).n }
-    requires housed { Housed (house_of group.now.bytes.now) (claimed (house_of group.now.bytes.now) entries.now).room }
-    requires reckoned { Reckoned (house_of group.now.bytes.now) (claimed (house_of group.now.bytes.now) entries.now) terms.now }
-    ensures { result ≡ rent_fault (house_of group.now.bytes.now) (claimed (house_of group.now.bytes.now) entries.now) r }
+    requires room { r < (house group.now).n }
+    requires housed { Housed (house group.now) (claimed (house group.now) entries.now).room }
+    requires reckoned { Reckoned (house group.now) (claimed (house group.now) entries.now) terms.now }
+    ensures { result ≡ rent_fault (house group.now) (claimed (house group.now) entries.now) r }
 {
     let n = group.count() as u32;
     let mine = own_less(group, entries, terms.tenant[r] as usize);
@@ -94,10 +94,10 @@ fn cent_more(r: usize, missing: i128) -> i128
 
 // Whether the cents of room r are others than its tenant's.
 fn cents_off(group: &Group, entries: &Entries, terms: &Terms, r: usize) -> bool
-    requires room { r < (house_of group.now.bytes.now).n }
-    requires housed { Housed (house_of group.now.bytes.now) (claimed (house_of group.now.bytes.now) entries.now).room }
-    requires reckoned { Reckoned (house_of group.now.bytes.now) (claimed (house_of group.now.bytes.now) entries.now) terms.now }
-    ensures { result ≡ cents_fault (house_of group.now.bytes.now) (entered (house_of group.now.bytes.now).n entries.now) r }
+    requires room { r < (house group.now).n }
+    requires housed { Housed (house group.now) (claimed (house group.now) entries.now).room }
+    requires reckoned { Reckoned (house group.now) (claimed (house group.now) entries.now) terms.now }
+    ensures { result ≡ cents_fault (house group.now) (entered (house group.now).n entries.now) r }
 {
     let mine = own_less(group, entries, terms.tenant[r] as usize);
     let down = wide_add(mine, terms.even);
@@ -107,19 +107,19 @@ fn cents_off(group: &Group, entries: &Entries, terms: &Terms, r: usize) -> bool
 
 // Whether the rent or the cents of room r are at fault.
 fn price_off(group: &Group, entries: &Entries, terms: &Terms, r: usize) -> bool
-    requires room { r < (house_of group.now.bytes.now).n }
-    requires housed { Housed (house_of group.now.bytes.now) (claimed (house_of group.now.bytes.now) entries.now).room }
-    requires reckoned { Reckoned (house_of group.now.bytes.now) (claimed (house_of group.now.bytes.now) entries.now) terms.now }
-    ensures { result ≡ price_fault (house_of group.now.bytes.now) (entered (house_of group.now.bytes.now).n entries.now) r }
+    requires room { r < (house group.now).n }
+    requires housed { Housed (house group.now) (claimed (house group.now) entries.now).room }
+    requires reckoned { Reckoned (house group.now) (claimed (house group.now) entries.now) terms.now }
+    ensures { result ≡ price_fault (house group.now) (entered (house group.now).n entries.now) r }
 {
     rent_off(group, entries, terms, r) || cents_off(group, entries, terms, r)
 }
 
 // The first room whose rent or cents are at fault.
 pub fn first_price(group: &Group, entries: &Entries, terms: &Terms) -> usize
-    requires housed { Housed (house_of group.now.bytes.now) (claimed (house_of group.now.bytes.now) entries.now).room }
-    requires reckoned { Reckoned (house_of group.now.bytes.now) (claimed (house_of group.now.bytes.now) entries.now) terms.now }
-    ensures { result ≡ first (price_fault (house_of group.now.bytes.now) (entered (house_of group.now.bytes.now).n entries.now)) (house_of group.now.bytes.now).n }
+    requires housed { Housed (house group.now) (claimed (house group.now) entries.now).room }
+    requires reckoned { Reckoned (house group.now) (claimed (house group.now) entries.now) terms.now }
+    ensures { result ≡ first (price_fault (house group.now) (entered (house group.now).n entries.now)) (house group.now).n }
 {
     let n = group.count();
     for r in 0..n {

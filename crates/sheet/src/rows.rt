@@ -2,9 +2,10 @@
 ghost use Rattle.std.specs.Prelude.{◌≡◌, ◌<◌, ◌≤◌, take, ◌+ℤ◌};
 ghost use Rattle.rooms.specs.Before.{leads_back, on_circle};
 ghost use Rattle.rooms.specs.First.{first, some};
-ghost use Rattle.rooms.specs.Format.{house_of, most_people};
+ghost use Rattle.rooms.specs.Format.{most_people};
 ghost use Rattle.rooms.specs.House.{Housed};
 ghost use Rattle.rooms.specs.Rows.{number, way};
+ghost use Rattle.rooms.specs.View.{house};
 ghost use Rattle.rents.specs.Faults.{length_fault, way_fault};
 ghost use Rattle.sheet.specs.Entries.{Linked, claimed};
 
@@ -16,9 +17,9 @@ const NOBODY: usize = 255;
 
 // The length of person k's row and the way from k to i.
 fn reach(group: &Group, entries: &Entries, k: usize, i: usize) -> i128
-    requires persons { (k < (house_of group.now.bytes.now).n) × (i < (house_of group.now.bytes.now).n) }
-    requires housed { Housed (house_of group.now.bytes.now) (claimed (house_of group.now.bytes.now) entries.now).room }
-    ensures { result ≡ number (claimed (house_of group.now.bytes.now) entries.now).d k +ℤ way (house_of group.now.bytes.now) (claimed (house_of group.now.bytes.now) entries.now).room k i }
+    requires persons { (k < (house group.now).n) × (i < (house group.now).n) }
+    requires housed { Housed (house group.now) (claimed (house group.now) entries.now).room }
+    ensures { result ≡ number (claimed (house group.now) entries.now).d k +ℤ way (house group.now) (claimed (house group.now) entries.now).room k i }
 {
     let room = entries.room[k] as usize;
     let seen = group.worth(i, room) as i128;
@@ -28,9 +29,9 @@ fn reach(group: &Group, entries: &Entries, k: usize, i: usize) -> i128
 
 // Whether person i's length or person before is at fault.
 fn length_off(group: &Group, entries: &Entries, i: usize) -> bool
-    requires persons { i < (house_of group.now.bytes.now).n }
-    requires housed { Housed (house_of group.now.bytes.now) (claimed (house_of group.now.bytes.now) entries.now).room }
-    ensures { result ≡ length_fault (house_of group.now.bytes.now) (claimed (house_of group.now.bytes.now) entries.now) i }
+    requires persons { i < (house group.now).n }
+    requires housed { Housed (house group.now) (claimed (house group.now) entries.now).room }
+    ensures { result ≡ length_fault (house group.now) (claimed (house group.now) entries.now) i }
 {
     let n = group.count();
     let d = wide_at(&entries.d, i);
@@ -49,8 +50,8 @@ fn length_off(group: &Group, entries: &Entries, i: usize) -> bool
 
 // The first person whose length or person before is at fault.
 pub fn first_length(group: &Group, entries: &Entries) -> usize
-    requires { Housed (house_of group.now.bytes.now) (claimed (house_of group.now.bytes.now) entries.now).room }
-    ensures { result ≡ first (length_fault (house_of group.now.bytes.now) (claimed (house_of group.now.bytes.now) entries.now)) (house_of group.now.bytes.now).n }
+    requires { Housed (house group.now) (claimed (house group.now) entries.now).room }
+    ensures { result ≡ first (length_fault (house group.now) (claimed (house group.now) entries.now)) (house group.now).n }
 {
     let n = group.count();
     for i in 0..n {
@@ -83,8 +84,8 @@ fn leads_back(entries: &Entries, n: usize, left: usize, i: usize, j: usize) -> b
 
 // The first person who stands on a circle of persons before.
 pub fn first_circle(group: &Group, entries: &Entries) -> usize
-    requires { Linked (claimed (house_of group.now.bytes.now) entries.now).before (house_of group.now.bytes.now).n }
-    ensures { result ≡ first (on_circle (claimed (house_of group.now.bytes.now) entries.now).before (house_of group.now.bytes.now).n) (house_of group.now.bytes.now).n }
+    requires { Linked (claimed (house group.now) entries.now).before (house group.now).n }
+    ensures { result ≡ first (on_circle (claimed (house group.now) entries.now).before (house group.now).n) (house group.now).n }
 {
     let n = group.count();
     for i in 0..n {
@@ -97,9 +98,9 @@ pub fn first_circle(group: &Group, entries: &Entries) -> usize
 
 // The first person to whom the way from k leads to more.
 pub fn first_way(group: &Group, entries: &Entries, k: usize) -> usize
-    requires person { k < (house_of group.now.bytes.now).n }
-    requires housed { Housed (house_of group.now.bytes.now) (claimed (house_of group.now.bytes.now) entries.now).room }
-    ensures { result ≡ first (way_fault (house_of group.now.bytes.now) (claimed (house_of group.now.bytes.now) entries.now) k) (house_of group.now.bytes.now).n }
+    requires person { k < (house group.now).n }
+    requires housed { Housed (house group.now) (claimed (house group.now) entries.now).room }
+    ensures { result ≡ first (way_fault (house group.now) (claimed (house group.now) entries.now) k) (house group.now).n }
 {
     let n = group.count();
     for i in 0..n {
@@ -112,8 +113,8 @@ pub fn first_way(group: &Group, entries: &Entries, k: usize) -> usize
 
 // The first person from whom a way leads to more.
 pub fn first_ways(group: &Group, entries: &Entries) -> usize
-    requires { Housed (house_of group.now.bytes.now) (claimed (house_of group.now.bytes.now) entries.now).room }
-    ensures { result ≡ first (λ k. some (way_fault (house_of group.now.bytes.now) (claimed (house_of group.now.bytes.now) entries.now) k) (house_of group.now.bytes.now).n) (house_of group.now.bytes.now).n }
+    requires { Housed (house group.now) (claimed (house group.now) entries.now).room }
+    ensures { result ≡ first (λ k. some (way_fault (house group.now) (claimed (house group.now) entries.now) k) (house group.now).n) (house group.now).n }
 {
     let n = group.count();
     for k in 0..n {

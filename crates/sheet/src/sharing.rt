@@ -5,6 +5,7 @@ ghost use Rattle.rooms.specs.Format.{most_people, Allowed, house_of, read, taken
 ghost use Rattle.rooms.specs.House.{joint as joint_of};
 ghost use Rattle.rooms.specs.Refused.{number_of, place_of};
 ghost use Rattle.rooms.specs.Rows.{signed};
+ghost use Rattle.rooms.specs.View.{house};
 ghost use Rattle.assignment.specs.Answer.{sharing_of, persons_of, prices_of, array_of, looks_of, work_for};
 ghost use Rattle.rents.specs.Answer.{Measured, bits};
 ghost use Rattle.rents.specs.Rents.{spare};
@@ -17,7 +18,7 @@ use cents::write_cents;
 use longest::{LongestRows, longest_rows};
 use rents::{Outcome, fairest_rents};
 use rooms::group::MOST_PEOPLE;
-use rooms::{Group, Refusal};
+use rooms::{Group, Lent, Refusal};
 
 // How long the slices have to be for the largest group; the rooms are as many as the most people.
 pub const MOST_RENTS: usize = 2 * MOST_PEOPLE;
@@ -51,8 +52,9 @@ pub fn share(
         rooms.new rents.new work.new sheet.new (number_of e) (place_of e)) }
     ensures least { IfOk result (λ s. LeastGain (house_of group.now) s.least) }
 {
-    admit(group, rooms.len(), rents.len(), work.len(), sheet.len())?;
-    Ok(solve(&Group::new(group), rooms, rents, work, sheet))
+    let group = Group::try_from(group)?;
+    admit(&group, rooms.len(), rents.len(), work.len(), sheet.len())?;
+    Ok(solve(&group, rooms, rents, work, sheet))
 }
 
 // The share of every house within the bounds is fair, and its sheet is accepted; and its least gain is what whoever has least gains.
@@ -61,52 +63,57 @@ pub fn share_stands()
     ensures least { AlwaysLeast }
 {}
 
-// Whether a group is taken where slices of these lengths are lent, or why not.
-fn admit(group: &[u8], rooms: usize, rents: usize, work: usize, sheet: usize) -> Result<(), Refusal>
-    ensures { MatchResult result (λ _. lent_enough rooms rents work sheet (read group.now) ≡ taken (house_of group.now))
-        (λ e. lent_enough rooms rents work sheet (read group.now) ≡ refused (number_of e, place_of e)) }
+// Whether slices of these lengths are enough for a group, or which is too short.
+fn admit(
+    group: &Group,
+    rooms: usize,
+    rents: usize,
+    work: usize,
+    sheet: usize,
+) -> Result<(), Refusal>
+    ensures { MatchResult result (λ _. lent_enough rooms rents work sheet (taken (house group.now)) ≡ taken (house group.now))
+        (λ e. lent_enough rooms rents work sheet (taken (house group.now)) ≡ refused (number_of e, place_of e)) }
 {
-    Group::validate(group)?;
-    let n = Group::new(group).count();
+    let n = group.count();
     if rooms < n {
-        return Err(Refusal::Slice(0));
+        return Err(Refusal::Slice(Lent::Rooms));
     }
     if rents < 2 * n {
-        return Err(Refusal::Slice(1));
+        return Err(Refusal::Slice(Lent::Rents));
     }
     if work < work_len(n) {
-        return Err(Refusal::Slice(2));
+        return Err(Refusal::Slice(Lent::Work));
     }
     if sheet < sheet_len(n) {
-        return Err(Refusal::Slice(3));
+        return Err(Refusal::Slice(Lent::Sheet));
     }
     Ok(())
 }
 
 // The longest rows of the sharing that was found.
 fn rows_of(group: &Group, rooms: &[u32], found: Assignment, work: &mut [u64]) -> LongestRows
-    requires rooms { (rooms.now ≡ sharing_of (house_of group.now.bytes.now)) × (Allowed (house_of group.now.bytes.now)) }
-    requires numbers { (found.persons ≡ array_of (persons_of (house_of group.now.bytes.now))) × (found.rooms ≡ array_of (prices_of (house_of group.now.bytes.now))) }
-    requires enough { (house_of group.now.bytes.now).n * (house_of group.now.bytes.now).n ≤ length work.old }
-    ensures lengths { result.d ≡ lengths_of (house_of group.now.bytes.now) ++ replicate (most_people - (house_of group.now.bytes.now).n) 0 }
-    ensures priors { result.before ≡ priors_of (house_of group.now.bytes.now) ++ replicate (most_people - (house_of group.now.bytes.now).n) nobody }
-    ensures measured { Measured (house_of group.now.bytes.now) rooms.now result.d }
-    ensures clean { work.new ≡ replicate ((house_of group.now.bytes.now).n * (house_of group.now.bytes.now).n) 0
-        ++ drop ((house_of group.now.bytes.now).n * (house_of group.now.bytes.now).n) work.old }
+    requires rooms { (rooms.now ≡ sharing_of (house group.now)) × (Allowed (house group.now)) }
+    requires numbers { (found.persons ≡ array_of (persons_of (house group.now))) × (found.rooms ≡ array_of (prices_of (house group.now))) }
+    requires enough { (house group.now).n * (house group.now).n ≤ length work.old }
+    ensures lengths { result.d ≡ lengths_of (house group.now) ++ replicate (most_people - (house group.now).n) 0 }
+    ensures priors { result.before ≡ priors_of (house group.now) ++ replicate (most_people - (house group.now).n) nobody }
+    ensures measured { Measured (house group.now) rooms.now result.d }
+    ensures clean { work.new ≡ replicate ((house group.now).n * (house group.now).n) 0
+        ++ drop ((house group.now).n * (house group.now).n) work.old }
 {
     longest_rows(group, rooms, found.persons, found.rooms, work)
 }
 
 // The fairest rents and their cents, by the lengths of the longest rows.
 fn price(group: &Group, rooms: &[u32], d: [u64; MOST_PEOPLE], rents: &mut [u64]) -> Outcome
-    requires rooms { (rooms.now ≡ sharing_of (house_of group.now.bytes.now)) × (Allowed (house_of group.now.bytes.now)) }
-    requires lengths { d ≡ lengths_of (house_of group.now.bytes.now) ++ replicate (most_people - (house_of group.now.bytes.now).n) 0 }
-    requires measured { Measured (house_of group.now.bytes.now) rooms.now d }
-    requires enough { 2 * (house_of group.now.bytes.now).n ≤ length rents.old }
-    ensures rents { rents.new ≡ bits (fair_rents (house_of group.now.bytes.now))
-        ++ (bits (fair_cents (house_of group.now.bytes.now)) ++ drop (2 * (house_of group.now.bytes.now).n) rents.old) }
-    ensures joint { result.joint ≡ joint_of (house_of group.now.bytes.now) (sharing_of (house_of group.now.bytes.now)) }
-    ensures least { result.least ≡ spare (house_of group.now.bytes.now) (sharing_of (house_of group.now.bytes.now)) (signed (lengths_of (house_of group.now.bytes.now))) }
+    requires rooms { (rooms.now ≡ sharing_of (house group.now)) × (Allowed (house group.now)) }
+    requires lengths { d ≡ lengths_of (house group.now) ++ replicate (most_people - (house group.now).n) 0 }
+    requires measured { Measured (house group.now) rooms.now d }
+    requires enough { 2 * (house group.now).n ≤ length rents.old }
+    ensures rents { rents.new ≡ bits (fair_rents (house group.now))
+        ++ (bits (fair_cents (house group.now)) ++ drop (2 * (house group.now).n) rents.old) }
+    ensures joint { result.joint ≡ joint_of (house group.now) (sharing_of (house group.now)) }
+    ensures least { result.least ≡ spare (house group.now) (sharing_of (house group.now)) (signed (lengths_of (house group.now))) }
 {
     let outcome = fairest_rents(group, rooms, d, rents);
     write_cents(group.count(), group.rent(), rents);
@@ -121,17 +128,17 @@ fn solve(
     work: &mut [u64],
     sheet: &mut [u8],
 ) -> Shared
-    requires enough { ((house_of group.now.bytes.now).n ≤ length rooms.old) × ((2 * (house_of group.now.bytes.now).n ≤ length rents.old) × ((work_for (house_of group.now.bytes.now).n ≤ length work.old) × (sheet_length (house_of group.now.bytes.now).n ≤ length sheet.old))) }
-    ensures rooms { rooms.new ≡ sharing_of (house_of group.now.bytes.now) ++ drop (house_of group.now.bytes.now).n rooms.old }
-    ensures rents { rents.new ≡ bits (fair_rents (house_of group.now.bytes.now))
-        ++ (bits (fair_cents (house_of group.now.bytes.now)) ++ drop (2 * (house_of group.now.bytes.now).n) rents.old) }
-    ensures work { work.new ≡ replicate (work_for (house_of group.now.bytes.now).n) 0 ++ drop (work_for (house_of group.now.bytes.now).n) work.old }
-    ensures sheet { sheet.new ≡ sheet_bytes (house_of group.now.bytes.now).n (sheet_for (house_of group.now.bytes.now))
-        ++ drop (sheet_length (house_of group.now.bytes.now).n) sheet.old }
-    ensures people { result.people ≡ (house_of group.now.bytes.now).n }
-    ensures joint { result.joint ≡ joint_of (house_of group.now.bytes.now) (sharing_of (house_of group.now.bytes.now)) }
-    ensures least { result.least ≡ spare (house_of group.now.bytes.now) (sharing_of (house_of group.now.bytes.now)) (signed (lengths_of (house_of group.now.bytes.now))) }
-    ensures looks { result.looks ≡ looks_of (house_of group.now.bytes.now) }
+    requires enough { ((house group.now).n ≤ length rooms.old) × ((2 * (house group.now).n ≤ length rents.old) × ((work_for (house group.now).n ≤ length work.old) × (sheet_length (house group.now).n ≤ length sheet.old))) }
+    ensures rooms { rooms.new ≡ sharing_of (house group.now) ++ drop (house group.now).n rooms.old }
+    ensures rents { rents.new ≡ bits (fair_rents (house group.now))
+        ++ (bits (fair_cents (house group.now)) ++ drop (2 * (house group.now).n) rents.old) }
+    ensures work { work.new ≡ replicate (work_for (house group.now).n) 0 ++ drop (work_for (house group.now).n) work.old }
+    ensures sheet { sheet.new ≡ sheet_bytes (house group.now).n (sheet_for (house group.now))
+        ++ drop (sheet_length (house group.now).n) sheet.old }
+    ensures people { result.people ≡ (house group.now).n }
+    ensures joint { result.joint ≡ joint_of (house group.now) (sharing_of (house group.now)) }
+    ensures least { result.least ≡ spare (house group.now) (sharing_of (house group.now)) (signed (lengths_of (house group.now))) }
+    ensures looks { result.looks ≡ looks_of (house group.now) }
 {
     let n = group.count();
     let found = assign(group, rooms, work);

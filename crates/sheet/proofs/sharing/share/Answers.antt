@@ -1,5 +1,5 @@
 use Rattle.std.proofs.Common.{◌≡◌, ℕ, ◌*◌, List, ◌++◌, drop, replicate, sym, ap, ◌∙◌, subst, arith}
-use Rattle.rooms.specs.Format.{house_of, is_taken}
+use Rattle.rooms.specs.Format.{house_of, is_taken, taken}
 use Rattle.rooms.specs.House.{joint}
 use Rattle.rooms.specs.Rows.{signed}
 use Rattle.rooms.proofs.Taken.{allowed, passed}
@@ -9,14 +9,13 @@ use Rattle.rents.specs.Rents.{spare}
 use Rattle.sheet.specs.Format.{sheet_bytes, sheet_length}
 use Rattle.sheet.specs.Share.{LeastGain, fair_cents, fair_rents, lengths_of, sheet_for}
 use Rattle.sheet.proofs.Fairly.{fair, least_gain}
-use Rattle.sheet.proofs.Laid.{taken_lent}
 use Rattle.sheet.proofs.sharing.share.Goals as goal
 
 pub returns : goal.returns
 returns c =
     let g = c.args.group.now in
-    let e = taken_lent _ _ _ _ _ (house_of g) c.in_ok-admit.ensures in
-    let q = c.new.ensures in
+    let q = c.in_ok-group.ensures.0 in
+    let e = c.in_ok-group.ensures.1 ∙ ap (λ (s : List ℕ). taken (house_of s)) q in
     let a = allowed g (passed g (ap is_taken e)) in
     let n : c.solve.result.people ≡ (house_of g).n = c.solve.ensures.people ∙ ap (λ (s : List ℕ). (house_of s).n) q in
     let l = c.solve.ensures.least ∙ ap (λ (s : List ℕ). spare (house_of s) (sharing_of (house_of s)) (signed (lengths_of (house_of s)))) q in

@@ -1,5 +1,5 @@
 use Rattle.std.proofs.Common.{rules}
-use Rattle.rooms.specs.Format.{read}
+use Rattle.rooms.specs.Format.{first_large, read}
 use Rattle.rooms.proofs.group.Group.validate.Goals as goal
 
 pub returns-then-bytes-eq0 : goal.returns-then-bytes-eq0
@@ -22,10 +22,10 @@ pub returns-then-word_at-gt-MOST_RENT : goal.returns-then-word_at-gt-MOST_RENT
 unfolding read
 returns-then-word_at-gt-MOST_RENT c = search rules
 
-pub returns-then-k-n : goal.returns-then-k-n
-unfolding read
-returns-then-k-n c = search rules
+pub returns-in-Some : goal.returns-in-Some
+unfolding read first_large
+returns-in-Some c = search rules
 
-pub returns : goal.returns
-unfolding read
-returns c = search rules
+pub returns-in-None : goal.returns-in-None
+unfolding read first_large
+returns-in-None c = search rules

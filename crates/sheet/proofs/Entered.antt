@@ -42,9 +42,6 @@ module _ (h : House) (e : Entries) where
   pub room_read : (k : ℕ) → k < h.n → room_of (claimed h e).room k ≡ get_or e.room k 0
   room_read k l = get_or-take h.n e.room k 0 l
 
-  pub d_read : (k : ℕ) → k < h.n → number (claimed h e).d k ≡ number e.d k
-  d_read k l = get_or-take h.n e.d k (pos 0) l
-
   pub person_read : (k : ℕ) → k < h.n → number (claimed h e).persons k ≡ number e.persons k
   person_read k l = get_or-take h.n e.persons k (pos 0) l
 
@@ -52,16 +49,10 @@ module _ (h : House) (e : Entries) where
   number_read k l = get_or-take h.n e.rooms k (pos 0) l
 
   -- The test of the numbers, by what is read.
-  pub number_test : (i r : ℕ) (u v : ℤ) (w : ℕ) → i < h.n → r < h.n → u ≡ number e.persons i → v ≡ number e.rooms r → w ≡ worth_at h i r →
-      (lt_z (u +ℤ v) (pos w) || (eqb (get_or e.room i 0) r && lt_z (pos w) (u +ℤ v))) ≡ number_fault h (claimed h e) i r
+  pub number_test : (i r : ℕ) (u v : ℤ) (o w : ℕ) → i < h.n → r < h.n → u ≡ number e.persons i → v ≡ number e.rooms r → o ≡ get_or e.room i 0 →
+      w ≡ worth_at h i r → (lt_z (u +ℤ v) (pos w) || (eqb o r && lt_z (pos w) (u +ℤ v))) ≡ number_fault h (claimed h e) i r
   unfolding value
-  number_test i r u v w l m a b d =
-      same u (number (claimed h e).persons i) v (number (claimed h e).rooms r) (get_or e.room i 0)
-      (room_of (claimed h e).room i) w (worth_at h i r) (a ∙ sym (person_read i l)) (b ∙ sym (number_read r m)) (sym (room_read i l)) d
-    where
-      same : (u u' v v' : ℤ) (o o' x x' : ℕ) → u ≡ u' → v ≡ v' → o ≡ o' → x ≡ x' →
-          (lt_z (u +ℤ v) (pos x) || (eqb o r && lt_z (pos x) (u +ℤ v))) ≡ (lt_z (u' +ℤ v') (pos x') || (eqb o' r && lt_z (pos x') (u' +ℤ v')))
-      same u u' v v' o o' x x' a b c d = cc
+  number_test i r u v o w l m a b c d = rw (person_read i l, number_read r m, room_read i l, a, b, c, d)
 
 -- Numbers have different bits just where they differ.
 pub bits_differ : (a b : ℤ) → SFits w128 a → SFits w128 b → not (eqb (of_z w128 a) (of_z w128 b)) ≡ differs a b

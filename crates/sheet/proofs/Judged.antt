@@ -1,11 +1,11 @@
 -- What each step of a judgement tells, and what is therefore shown or false.
-use Rattle.std.proofs.Common.{◌≡◌, ℕ, ◌+◌, ◌<◌, ◌≤◌, Bool, true, false, cond, ◌⊎◌, sym, refl, ap, ◌∙◌, inl, inr, arith}
-use Rattle.std.proofs.lemmas.Bool.{both_ways, cases_Bool, cases_lt, cond-false, cond-true, le-ltb, lt-ltb, ltb-false, ltb-true, or_cases}
+use Rattle.std.proofs.Common.{◌≡◌, ℕ, ◌+◌, ◌<◌, ◌≤◌, Bool, true, false, cond, ◌⊎◌, Some, None, sym, refl, ap, ◌∙◌, inl, inr, arith}
+use Rattle.std.proofs.lemmas.Bool.{both_ways, cases_Bool, cond-false, cond-true, ltb-true, or_cases}
 use Rattle.rooms.specs.Before.{on_circle}
-use Rattle.rooms.specs.First.{first, some}
+use Rattle.rooms.specs.First.{first, found, some}
 use Rattle.rooms.specs.Format.{most_people}
 use Rattle.rooms.specs.House.{House, Housed}
-use Rattle.rooms.proofs.First.{first_at, first_before}
+use Rattle.rooms.proofs.First.{first_at, some_false}
 use Rattle.rents.specs.Shown.{Claim, Whole}
 use Rattle.rents.specs.Faults.{length_fault, number_fault, rent_fault, room_fault, way_fault}
 use Rattle.rents.proofs.Faults.{comes_from, rooms_shared}
@@ -13,29 +13,45 @@ use Rattle.sheet.specs.Entries.{Linked}
 use Rattle.sheet.specs.Format.{Sheet}
 use Rattle.sheet.specs.Judge.{Judgement, cents_fault, judge_sheet, named, place, price_fault}
 use Rattle.sheet.specs.Judge.Judgement.{accepted, faulty}
+use Rattle.sheet.specs.Pairs.{found_pair}
+use Rattle.sheet.proofs.Found.{found_at, found_none, found_there, no_pair_found, pair_at}
 
 -- ---- one step
 module _ (fault : ℕ → Bool) (n : ℕ) (name : ℕ → ℕ × ℕ) (next : Judgement) where
-  pub named_here : first fault n < n → named fault n name next ≡ faulty (name (first fault n))
-  named_here l = cond-true (some fault n) (faulty (name (first fault n))) next (lt-ltb _ _ l)
+  named_here : some fault n ≡ true → named fault n name next ≡ faulty (name (first fault n))
+  named_here e = cond-true (some fault n) (faulty (name (first fault n))) next e
 
-  pub named_past : n ≤ first fault n → named fault n name next ≡ next
-  named_past l = cond-false (some fault n) (faulty (name (first fault n))) next (le-ltb _ _ l)
+  named_past : some fault n ≡ false → named fault n name next ≡ next
+  named_past e = cond-false (some fault n) (faulty (name (first fault n))) next e
 
   named_cases :
       ((first fault n < n) × (fault (first fault n) ≡ true) × (named fault n name next ≡ faulty (name (first fault n))))
       ⊎ (((k : ℕ) → k < n → fault k ≡ false) × (named fault n name next ≡ next))
-  named_cases = elim (cases_lt (first fault n) n) [
-    | inl l ↦ inl (l, first_at fault n l, named_here l)
-    | inr l ↦ inr (λ k m. first_before fault n k (omega arith), named_past l)
+  named_cases = elim (cases_Bool (some fault n)) [
+    | inl e ↦ let l = ltb-true _ _ e in inl (l, first_at fault n l, named_here e)
+    | inr e ↦ inr (some_false fault n e, named_past e)
   ]
 
--- Where a test of two parts holds at the first place i, its second part r is below n, and so below 32.
-pub inner_small : (t : ℕ → ℕ → Bool) (n i r : ℕ) → n ≤ most_people → i ≡ first (λ i. some (t i) n) n → i < n → r ≡ first (t i) n → r < 32
-inner_small t n i r few e l q =
-    let a : first (λ i. some (t i) n) n < n = omega (arith, e) in
-    let b : some (t i) n ≡ true = ap (λ k. some (t k) n) e ∙ first_at (λ i. some (t i) n) n a in
-    omega (arith, ltb-true (first (t i) n) n b)
+  -- What is found there is named, and where nothing is the judgement goes on.
+  pub named_found : (i : ℕ) → Some i ≡ found fault n → named fault n name next ≡ faulty (name i)
+  named_found i e = let a = found_at fault n i e in named_here a.0 ∙ ap (λ (z : ℕ). faulty (name z)) (sym a.1)
+
+  pub named_none : None ≡ found fault n → named fault n name next ≡ next
+  named_none e = named_past (found_none fault n e)
+
+-- A test of two numbers: its pair is named, the second that is found with it; and its second number is below 32.
+module _ (t : ℕ → ℕ → Bool) (n : ℕ) where
+  pub named_pair : (code : ℕ) (next : Judgement) (i r : ℕ) → Some (i, r) ≡ found_pair t n →
+      named (λ i. some (t i) n) n (λ i. (code, place i (first (t i) n))) next ≡ faulty (code, place i r)
+  named_pair code next i r e =
+      let p = pair_at t n i r e in
+      named_found (λ i. some (t i) n) n (λ i. (code, place i (first (t i) n))) next i p.0 ∙ ap (λ (z : ℕ). faulty (code, place i z)) (sym p.1)
+
+  pub pair_small : (i r : ℕ) → n ≤ most_people → Some (i, r) ≡ found_pair t n → r < 32
+  pair_small i r few e =
+      let p = pair_at t n i r e in
+      let l = ltb-true _ _ (found_there (λ i. some (t i) n) n i p.0).1 in
+      omega (arith, p.1)
 
 -- ---- what is left of the judgement after the rooms, the numbers, the lengths, the circles and the ways
 abbrev pub from_prices : House → Sheet → Judgement
@@ -59,76 +75,49 @@ pub from_rooms : (h : House) (s : Sheet) → judge_sheet h s ≡ named (room_fau
 unfolding judge_sheet
 from_rooms h s = refl
 
--- ---- the judgement at each step: it is named there, or goes on
-module _ (h : House) (s : Sheet) where
-  pub at_rooms : (i : ℕ) → i ≡ first (room_fault h s.claim) h.n → i < h.n → faulty (7, i) ≡ judge_sheet h s
-  at_rooms i e l =
-      ap (λ (z : ℕ). faulty (7, z)) e ∙ sym (named_here (room_fault h s.claim) h.n (λ i. (7, i)) (from_numbers h s) (omega arith)) ∙ sym (from_rooms h s)
+-- ---- the judgement after each step that finds nothing, and what is then shown
+module _ (h : House) (s : Sheet) (rooms : None ≡ found (room_fault h s.claim) h.n) where
+  pub past_rooms : judge_sheet h s ≡ from_numbers h s
+  past_rooms = from_rooms h s ∙ named_none (room_fault h s.claim) h.n (λ i. (7, i)) (from_numbers h s) rooms
 
-  pub past_rooms : h.n ≤ first (room_fault h s.claim) h.n → judge_sheet h s ≡ from_numbers h s
-  past_rooms l = from_rooms h s ∙ named_past (room_fault h s.claim) h.n (λ i. (7, i)) (from_numbers h s) l
+  pub housed_from : Whole h s.claim → Housed h s.claim.room
+  housed_from w = rooms_shared h s.claim w (some_false _ _ (found_none (room_fault h s.claim) h.n rooms))
 
-  pub at_numbers : judge_sheet h s ≡ from_numbers h s → (i r : ℕ) → i ≡ first (λ i. some (number_fault h s.claim i) h.n) h.n →
-      r ≡ first (number_fault h s.claim i) h.n → i < h.n → faulty (8, place i r) ≡ judge_sheet h s
-  at_numbers p i r e f l =
-      ap (λ (z : ℕ). faulty (8, place i z)) f ∙ ap (λ (z : ℕ). faulty (8, place z (first (number_fault h s.claim z) h.n))) e
-      ∙ sym (named_here (λ i. some (number_fault h s.claim i) h.n) h.n (λ i. (8, place i (first (number_fault h s.claim i) h.n))) (from_lengths h s) (omega arith))
-      ∙ sym p
+  module _ (numbers : None ≡ found_pair (number_fault h s.claim) h.n) where
+    pub past_numbers : judge_sheet h s ≡ from_lengths h s
+    past_numbers =
+        past_rooms
+        ∙ named_none (λ i. some (number_fault h s.claim i) h.n) h.n (λ i. (8, place i (first (number_fault h s.claim i) h.n))) (from_lengths h s)
+        (no_pair_found (number_fault h s.claim) h.n numbers)
 
-  pub past_numbers : judge_sheet h s ≡ from_numbers h s → h.n ≤ first (λ i. some (number_fault h s.claim i) h.n) h.n → judge_sheet h s ≡ from_lengths h s
-  past_numbers p l =
-      p ∙ named_past (λ i. some (number_fault h s.claim i) h.n) h.n (λ i. (8, place i (first (number_fault h s.claim i) h.n))) (from_lengths h s) l
+    module _ (lengths : None ≡ found (length_fault h s.claim) h.n) where
+      pub past_lengths : judge_sheet h s ≡ from_circles h s
+      past_lengths = past_numbers ∙ named_none (length_fault h s.claim) h.n (λ i. (9, i)) (from_circles h s) lengths
 
-  pub at_lengths : judge_sheet h s ≡ from_lengths h s → (i : ℕ) → i ≡ first (length_fault h s.claim) h.n → i < h.n → faulty (9, i) ≡ judge_sheet h s
-  at_lengths p i e l =
-      ap (λ (z : ℕ). faulty (9, z)) e ∙ sym (named_here (length_fault h s.claim) h.n (λ i. (9, i)) (from_circles h s) (omega arith)) ∙ sym p
+      module _ (circles : None ≡ found (on_circle s.claim.before h.n) h.n) where
+        pub past_circles : judge_sheet h s ≡ from_ways h s
+        past_circles = past_lengths ∙ named_none (on_circle s.claim.before h.n) h.n (λ i. (9, i)) (from_ways h s) circles
 
-  pub past_lengths : judge_sheet h s ≡ from_lengths h s → h.n ≤ first (length_fault h s.claim) h.n → judge_sheet h s ≡ from_circles h s
-  past_lengths p l = p ∙ named_past (length_fault h s.claim) h.n (λ i. (9, i)) (from_circles h s) l
+        module _ (ways : None ≡ found_pair (way_fault h s.claim) h.n) where
+          pub past_ways : judge_sheet h s ≡ from_prices h s
+          past_ways =
+              past_circles
+              ∙ named_none (λ k. some (way_fault h s.claim k) h.n) h.n (λ k. (10, place k (first (way_fault h s.claim k) h.n))) (from_prices h s)
+              (no_pair_found (way_fault h s.claim) h.n ways)
 
-  pub at_circles : judge_sheet h s ≡ from_circles h s → (i : ℕ) → i ≡ first (on_circle s.claim.before h.n) h.n → i < h.n →
-      faulty (9, i) ≡ judge_sheet h s
-  at_circles p i e l =
-      ap (λ (z : ℕ). faulty (9, z)) e ∙ sym (named_here (on_circle s.claim.before h.n) h.n (λ i. (9, i)) (from_ways h s) (omega arith)) ∙ sym p
+          pub past_prices : None ≡ found (price_fault h s) h.n → judge_sheet h s ≡ accepted
+          past_prices prices = past_ways ∙ named_none (price_fault h s) h.n (λ r. (11, cond (rent_fault h s.claim r) r (r + 32))) accepted prices
 
-  pub past_circles : judge_sheet h s ≡ from_circles h s → h.n ≤ first (on_circle s.claim.before h.n) h.n → judge_sheet h s ≡ from_ways h s
-  past_circles p l = p ∙ named_past (on_circle s.claim.before h.n) h.n (λ i. (9, i)) (from_ways h s) l
+-- A price that is found is a rent or cents, as the test of its rent tells.
+pub named_price : (h : House) (s : Sheet) (r : ℕ) (rent : Bool) → Some r ≡ found (price_fault h s) h.n → rent ≡ rent_fault h s.claim r →
+    from_prices h s ≡ faulty (11, cond rent r (r + 32))
+named_price h s r rent e t =
+    named_found (price_fault h s) h.n (λ r. (11, cond (rent_fault h s.claim r) r (r + 32))) accepted r e
+    ∙ ap (λ b. faulty (11, cond b r (r + 32))) (sym t)
 
-  pub at_ways : judge_sheet h s ≡ from_ways h s → (k i : ℕ) → k ≡ first (λ k. some (way_fault h s.claim k) h.n) h.n →
-      i ≡ first (way_fault h s.claim k) h.n → k < h.n → faulty (10, place k i) ≡ judge_sheet h s
-  at_ways p k i e f l =
-      ap (λ (z : ℕ). faulty (10, place k z)) f ∙ ap (λ (z : ℕ). faulty (10, place z (first (way_fault h s.claim z) h.n))) e
-      ∙ sym (named_here (λ k. some (way_fault h s.claim k) h.n) h.n (λ k. (10, place k (first (way_fault h s.claim k) h.n))) (from_prices h s) (omega arith))
-      ∙ sym p
-
-  pub past_ways : judge_sheet h s ≡ from_ways h s → h.n ≤ first (λ k. some (way_fault h s.claim k) h.n) h.n → judge_sheet h s ≡ from_prices h s
-  past_ways p l =
-      p ∙ named_past (λ k. some (way_fault h s.claim k) h.n) h.n (λ k. (10, place k (first (way_fault h s.claim k) h.n))) (from_prices h s) l
-
-  at_prices : judge_sheet h s ≡ from_prices h s → (r : ℕ) → r ≡ first (price_fault h s) h.n → r < h.n →
-      faulty (11, cond (rent_fault h s.claim r) r (r + 32)) ≡ judge_sheet h s
-  at_prices p r e l =
-      ap (λ (z : ℕ). faulty (11, cond (rent_fault h s.claim z) z (z + 32))) e
-      ∙ sym (named_here (price_fault h s) h.n (λ r. (11, cond (rent_fault h s.claim r) r (r + 32))) accepted (omega arith)) ∙ sym p
-
-  pub at_rents : judge_sheet h s ≡ from_prices h s → (r : ℕ) → r ≡ first (price_fault h s) h.n → r < h.n → rent_fault h s.claim r ≡ true →
-      faulty (11, r) ≡ judge_sheet h s
-  at_rents p r e l t = ap (λ (z : ℕ). faulty (11, z)) (sym (cond-true _ _ _ t)) ∙ at_prices p r e l
-
-  pub at_cents_of : judge_sheet h s ≡ from_prices h s → (r : ℕ) → r ≡ first (price_fault h s) h.n → r < h.n → rent_fault h s.claim r ≡ false →
-      faulty (11, r + 32) ≡ judge_sheet h s
-  at_cents_of p r e l t = ap (λ (z : ℕ). faulty (11, z)) (sym (cond-false _ _ _ t)) ∙ at_prices p r e l
-
-  pub past_prices : judge_sheet h s ≡ from_prices h s → h.n ≤ first (price_fault h s) h.n → judge_sheet h s ≡ accepted
-  past_prices p l = p ∙ named_past (price_fault h s) h.n (λ r. (11, cond (rent_fault h s.claim r) r (r + 32))) accepted l
-
--- ---- what the tests that passed show
-pub housed_from : (h : House) (c : Claim) → Whole h c → h.n ≤ first (room_fault h c) h.n → Housed h c.room
-housed_from h c w l = rooms_shared h c w (λ i m. first_before (room_fault h c) h.n i (omega arith))
-
-pub linked_from : (h : House) (c : Claim) → h.n ≤ first (length_fault h c) h.n → Linked c.before h.n
-linked_from h c l i m =
-    elim (comes_from h c i (first_before (length_fault h c) h.n i (omega arith))) [ inl a ↦ inl a.0 | inr a ↦ inr a.0 ]
+pub linked_from : (h : House) (c : Claim) → None ≡ found (length_fault h c) h.n → Linked c.before h.n
+linked_from h c e i m =
+    elim (comes_from h c i (some_false _ _ (found_none (length_fault h c) h.n e) i m)) [ inl a ↦ inl a.0 | inr a ↦ inr a.0 ]
 
 -- ---- a whole judgement
 pub record Clean (h : House) (s : Sheet) : Type 0 where
@@ -148,9 +137,6 @@ pub data View (h : House) (s : Sheet) (j : Judgement) : Type 0 where
   at_rent : ((i : ℕ) → i < h.n → room_fault h s.claim i ≡ false) → (r : ℕ) → r < h.n → rent_fault h s.claim r ≡ true → j ≡ faulty (11, r) → View h s j
   at_cents : (r : ℕ) → r < h.n → cents_fault h s r ≡ true → j ≡ faulty (11, r + 32) → View h s j
   clean : Clean h s → j ≡ accepted → View h s j
-
-none_below : (t : ℕ → Bool) (n : ℕ) → some t n ≡ false → (k : ℕ) → k < n → t k ≡ false
-none_below t n e k l = first_before t n k (omega (arith, ltb-false _ _ e))
 
 module _ (h : House) (s : Sheet) where
   price_view : ((i : ℕ) → i < h.n → room_fault h s.claim i ≡ false) → (j : Judgement) (r : ℕ) → r < h.n → price_fault h s r ≡ true →
@@ -191,10 +177,10 @@ module _ (h : House) (s : Sheet) where
                   | inr g ↦
                       clean (record {
                         rooms = a.0;
-                        numbers = λ i r l m. none_below (number_fault h c i) n (b.0 i l) r m;
+                        numbers = λ i r l m. some_false (number_fault h c i) n (b.0 i l) r m;
                         lengths = d.0;
                         circles = e.0;
-                        ways = λ k i l m. none_below (way_fault h c k) n (f.0 k l) i m;
+                        ways = λ k i l m. some_false (way_fault h c k) n (f.0 k l) i m;
                         prices = g.0;
                       }) (from_rooms h s ∙ a.1 ∙ b.1 ∙ d.1 ∙ e.1 ∙ f.1 ∙ g.1)
                 ]

@@ -2,6 +2,7 @@ pub mod Padded
 pub mod Pieces
 pub mod Roundtrips
 pub mod Sheets
+mod Found
 mod Entered
 mod Shared
 mod Lengths

@@ -10,9 +10,6 @@ abbrev pub padded : {X : Type 0} → (ℕ → X) → X → ℕ → ℕ → List 
 padded f z m k = map f (range_with_len 0 k) ++ replicate (m - k) z
 
 module _ {X : Type 0} (f : ℕ → X) (z : X) (m : ℕ) where
-  pub padded_none : replicate m z ≡ padded f z m 0
-  padded_none = let e : m - 0 ≡ m = omega arith in rw e
-
   -- The first of those not yet made is made.
   pub padded_more : (k : ℕ) → k < m → set (padded f z m k) k (f k) ≡ padded f z m (k + 1)
   padded_more k h =

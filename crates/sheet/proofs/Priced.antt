@@ -16,32 +16,28 @@ use Rattle.rents.specs.Shown.{Claim}
 use Rattle.rents.specs.Faults.{differs, rent_fault}
 use Rattle.rents.proofs.Fair.{whose_own}
 use Rattle.cents.specs.Cents.{cents_of, missing_cents}
-use Rattle.sheet.specs.declared.entries.Entries.{Entries}
-use Rattle.sheet.specs.Entries.{claimed}
 use Rattle.sheet.specs.Format.{Sheet}
 use Rattle.sheet.specs.Judge.{cents_fault}
-use Rattle.sheet.proofs.Entered.{d_read, room_read}
 
 -- What their room is worth to person i, less the length of their row.
 abbrev pub own_part : House → Claim → ℕ → ℤ
 own_part h c i = value h i (room_of c.room i) -ℤ number c.d i
 
 -- What is read makes it up.
-pub own_is : (h : House) (e : Entries) (i w : ℕ) (x : ℤ) → i < h.n → w ≡ worth_at h i (get_or e.room i 0) → x ≡ number e.d i →
-    pos w -ℤ x ≡ own_part h (claimed h e) i
+pub own_is : (h : House) (c : Claim) (i room w : ℕ) (x : ℤ) → room ≡ room_of c.room i → w ≡ worth_at h i room → x ≡ number c.d i →
+    pos w -ℤ x ≡ own_part h c i
 unfolding value
-own_is h e i w x l a b = rw (room_read h e i l, d_read h e i l, a, b)
+own_is h c i room w x a b d = rw (b, a, d)
 
--- Person i stands at their room, and those before at theirs: no two have the same.
-pub tenants_more : (h : House) (e : Entries) (i : ℕ) (t : List ℕ) → h.n ≤ most_people → Housed h (claimed h e).room → i < h.n → length t ≡ most_people →
-    ((k : ℕ) → k < i → get_or t (room_of (claimed h e).room k) 0 ≡ k) →
-    (k : ℕ) → k < i + 1 → get_or (set t (get_or e.room i 0) i) (room_of (claimed h e).room k) 0 ≡ k
-tenants_more h e i t few s l w f =
-    let a = room_read h e i l in
-    let b : room_of (claimed h e).room i < length t = omega (arith, s.each i l) in
-    rw (← a) (below_more _ _
-    (λ k m. get_or-set_other t (room_of (claimed h e).room i) (room_of (claimed h e).room k) i 0 (λ q. omega (arith, s.own k i (omega arith) l q)) ∙ f k m)
-    (get_or-set_same t (room_of (claimed h e).room i) i 0 b))
+-- Person i stands at their room r, and those before at theirs: no two have the same.
+pub tenants_more : (h : House) (c : Claim) (i r : ℕ) (t : List ℕ) → h.n ≤ most_people → Housed h c.room → i < h.n → r ≡ room_of c.room i →
+    length t ≡ most_people → ((k : ℕ) → k < i → get_or t (room_of c.room k) 0 ≡ k) →
+    (k : ℕ) → k < i + 1 → get_or (set t r i) (room_of c.room k) 0 ≡ k
+tenants_more h c i r t few s l a w f =
+    let b : room_of c.room i < length t = omega (arith, s.each i l) in
+    rw a (below_more _ _
+    (λ k m. get_or-set_other t (room_of c.room i) (room_of c.room k) i 0 (λ q. omega (arith, s.own k i (omega arith) l q)) ∙ f k m)
+    (get_or-set_same t (room_of c.room i) i 0 b))
 
 pub tenants_all : (h : House) (c : Claim) (t : List ℕ) → Housed h c.room → ((k : ℕ) → k < h.n → get_or t (room_of c.room k) 0 ≡ k) →
     (r : ℕ) → r < h.n → get_or t r 0 ≡ whose h c.room r
@@ -115,23 +111,15 @@ pub cents_long : (n rent : ℕ) (ps : List ℤ) → length (cents_of n rent ps) 
 cents_long n rent ps = length-map-range_with_len (λ r. floor (rent_of ps r) n +ℤ cond (lt_z (pos r) (missing_cents n rent ps)) (pos 1) (pos 0)) 0 n
 
 -- ---- the tests of a rent and of cents, by what they are reckoned from
-pub rent_test : (h : House) (c : Claim) (r k m : ℕ) (a o t s d : ℤ) → a ≡ rent_of c.rents r → o ≡ own_part h c k → k ≡ whose h c.room r → m ≡ h.n →
+pub rent_test : (h : House) (c : Claim) (r m : ℕ) (a o t s d : ℤ) → a ≡ rent_of c.rents r → o ≡ own_part h c (whose h c.room r) → m ≡ h.n →
     t ≡ o *ℤ pos m → s ≡ spare h c.room c.d → d ≡ t -ℤ s → differs a d ≡ rent_fault h c r
-rent_test h c r k m a o t s d p q u v w x y = cc
+rent_test h c r m a o t s d p q v w x y = cc
 
-pub cents_test : (h : House) (sheet : Sheet) → Housed h sheet.claim.room → (r k : ℕ) (a o f m x s z : ℤ) → r < h.n → a ≡ number sheet.cents r →
-    o ≡ own_part h sheet.claim k → k ≡ whose h sheet.claim.room r → f ≡ floor (neg_ℤ s) h.n → m ≡ neg_ℤ s -ℤ f *ℤ pos h.n →
+pub cents_test : (h : House) (sheet : Sheet) → Housed h sheet.claim.room → (r : ℕ) (a o f m x s z : ℤ) → r < h.n → a ≡ number sheet.cents r →
+    o ≡ own_part h sheet.claim (whose h sheet.claim.room r) → f ≡ floor (neg_ℤ s) h.n → m ≡ neg_ℤ s -ℤ f *ℤ pos h.n →
     x ≡ cond (lt_z (pos r) m) (pos 1) (pos 0) → s ≡ spare h sheet.claim.room sheet.claim.d → z ≡ (o +ℤ f) +ℤ x → differs a z ≡ cents_fault h sheet r
-cents_test h sheet housed r k a o f m x s z l p q u v w y e g =
+cents_test h sheet housed r a o f m x s z l p q v w y e g =
     let some : 0 < h.n = omega arith in
     let n = cents_at h sheet.claim housed some r l in
-    let ev : f ≡ floor (neg_ℤ (spare h sheet.claim.room sheet.claim.d)) h.n = v ∙ ap (λ (y : ℤ). floor (neg_ℤ y) h.n) e in
-    let mi : m ≡ neg_ℤ (spare h sheet.claim.room sheet.claim.d) -ℤ floor (neg_ℤ (spare h sheet.claim.room sheet.claim.d)) h.n *ℤ pos h.n =
-    w ∙ ap (λ (y : ℤ). neg_ℤ y -ℤ f *ℤ pos h.n) e ∙ ap (λ (y : ℤ). neg_ℤ (spare h sheet.claim.room sheet.claim.d) -ℤ y *ℤ pos h.n) ev in
-    let zi : z ≡ number (cents_of h.n h.rent (rents_of h sheet.claim.room sheet.claim.d)) r =
-    g ∙ ap (λ (y : ℤ). (y +ℤ f) +ℤ x) (q ∙ ap (own_part h sheet.claim) u)
-    ∙ ap (λ (y : ℤ). (own_part h sheet.claim (whose h sheet.claim.room r) +ℤ y) +ℤ x) ev
-    ∙ ap (λ (y : ℤ). (own_part h sheet.claim (whose h sheet.claim.room r) +ℤ floor (neg_ℤ (spare h sheet.claim.room sheet.claim.d)) h.n) +ℤ y)
-    (y ∙ ap (λ (y : ℤ). cond (lt_z (pos r) y) (pos 1) (pos 0)) mi)
-    ∙ sym n in
+    let zi : z ≡ number (cents_of h.n h.rent (rents_of h sheet.claim.room sheet.claim.d)) r = rw (n, g, q, y, w, v, e) in
     ap (λ (y : ℤ). differs y z) p ∙ ap (differs (number sheet.cents r)) zi

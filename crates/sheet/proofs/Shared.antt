@@ -9,7 +9,6 @@ use Rattle.rooms.proofs.First.{first_more, true_some}
 use Rattle.rents.specs.Faults.{room_fault}
 use Rattle.sheet.specs.declared.entries.Entries.{Entries}
 use Rattle.sheet.specs.Entries.{claimed}
-use Rattle.sheet.proofs.Entered.{room_read}
 
 -- Where the test fails at n, one more number changes nothing.
 pub some_skip : (t : ℕ → Bool) (n : ℕ) → t n ≡ false → some t (suc n) ≡ some t n
@@ -27,43 +26,38 @@ pub record Marked (h : House) (e : Entries) (i : ℕ) (marks : List Bool) : Type
   pub whole : length marks ≡ most_people
   pub each : (r : ℕ) → r < h.n → get_or marks r false ≡ some (λ k. eqb (room_of (claimed h e).room k) r) i
 
-module _ (h : House) (e : Entries) (few : h.n ≤ most_people) where
-  module _ (i : ℕ) (marks : List Bool) (l : i < h.n) (m : Marked h e i marks) where
-    -- A room that is none, or that is marked.
-    pub marked_out : h.n ≤ get_or e.room i 0 → room_fault h (claimed h e) i ≡ true
-    marked_out o =
-        let a : h.n ≤ room_of (claimed h e).room i = rw (room_read h e i l) o in
-        or_left _ _ (not_from_false _ (le-ltb _ _ a))
+-- Person i has room r, as the code reads it.
+module _ (h : House) (e : Entries) (few : h.n ≤ most_people) (i r : ℕ) (marks : List Bool) (m : Marked h e i marks) (read : r ≡ room_of (claimed h e).room i) where
+  -- A room that is none, or that is marked.
+  pub marked_out : h.n ≤ r → room_fault h (claimed h e) i ≡ true
+  marked_out o =
+      let a : h.n ≤ room_of (claimed h e).room i = omega arith in
+      or_left _ _ (not_from_false _ (le-ltb _ _ a))
 
-    pub marked_twice : get_or e.room i 0 < h.n → get_or marks (get_or e.room i 0) false ≡ true → room_fault h (claimed h e) i ≡ true
-    marked_twice o t =
-        or_right (not (ltb (room_of (claimed h e).room i) h.n)) (some (λ k. eqb (room_of (claimed h e).room k) (room_of (claimed h e).room i)) i)
-        (rw (room_read h e i l) (sym (m.each (get_or e.room i 0) o) ∙ t))
+  pub marked_twice : r < h.n → get_or marks r false ≡ true → room_fault h (claimed h e) i ≡ true
+  marked_twice o t =
+      or_right (not (ltb (room_of (claimed h e).room i) h.n)) (some (λ k. eqb (room_of (claimed h e).room k) (room_of (claimed h e).room i)) i)
+      (rw (← read) (sym (m.each r o) ∙ t))
 
-    -- Person i's room is one, and is not marked, so nobody before has it. Marked now, it is somebody's among the first i + 1; and any other room is
-    -- somebody's among them just where it was among the first i.
-    pub marked_more : get_or e.room i 0 < h.n → get_or marks (get_or e.room i 0) false ≡ false → Marked h e (i + 1) (set marks (get_or e.room i 0) true)
-    marked_more o f =
-        let r = get_or e.room i 0 in
-        let a : room_of (claimed h e).room i < h.n = rw (room_read h e i l) o in
-        let here : room_fault h (claimed h e) i ≡ false =
-        or_from (not (ltb (room_of (claimed h e).room i) h.n)) (some (λ k. eqb (room_of (claimed h e).room k) (room_of (claimed h e).room i)) i)
-        (not_from_true _ (lt-ltb _ _ a)) (rw (room_read h e i l) (sym (m.each r o) ∙ f)) in
-        record {
-          fine = below_more _ _ m.fine here;
-          whole = whole m.whole;
-          each = λ q p. rw add-one (mark q p (cases_eq q r));
-        }
-      where
-        whole : length marks ≡ most_people → length (set marks (get_or e.room i 0) true) ≡ most_people
-        whole w = length-set marks (get_or e.room i 0) true ∙ w
-
-        mark : (q : ℕ) → q < h.n → (q ≡ get_or e.room i 0) ⊎ (q ≡ get_or e.room i 0 → ⊥) →
-            get_or (set marks (get_or e.room i 0) true) q false ≡ some (λ k. eqb (room_of (claimed h e).room k) q) (suc i)
-        mark q p (inl s) =
-            ap (λ z. get_or (set marks (get_or e.room i 0) true) z false) s
-            ∙ get_or-set_same marks (get_or e.room i 0) true false (let w = m.whole in omega arith)
-            ∙ sym (true_some (λ k. eqb (room_of (claimed h e).room k) q) (suc i) i (omega arith) (eq-eqb _ _ (room_read h e i l ∙ sym s)))
-        mark q p (inr s) =
-            get_or-set_other marks (get_or e.room i 0) q true false s ∙ m.each q p
-            ∙ sym (some_skip (λ k. eqb (room_of (claimed h e).room k) q) i (ne_eqb _ _ (λ w. s (sym w ∙ room_read h e i l))))
+  -- The room is one, and is not marked, so nobody before has it. Marked now, it is somebody's among the first i + 1; and any other room is somebody's
+  -- among them just where it was among the first i.
+  pub marked_more : r < h.n → get_or marks r false ≡ false → Marked h e (i + 1) (set marks r true)
+  marked_more o f =
+      let a : room_of (claimed h e).room i < h.n = omega arith in
+      let here : room_fault h (claimed h e) i ≡ false =
+      or_from (not (ltb (room_of (claimed h e).room i) h.n)) (some (λ k. eqb (room_of (claimed h e).room k) (room_of (claimed h e).room i)) i)
+      (not_from_true _ (lt-ltb _ _ a)) (rw (← read) (sym (m.each r o) ∙ f)) in
+      record {
+        fine = below_more _ _ m.fine here;
+        whole = length-set marks r true ∙ m.whole;
+        each = λ q p. rw add-one (mark q p (cases_eq q r));
+      }
+    where
+      mark : (q : ℕ) → q < h.n → (q ≡ r) ⊎ (q ≡ r → ⊥) →
+          get_or (set marks r true) q false ≡ some (λ k. eqb (room_of (claimed h e).room k) q) (suc i)
+      mark q p (inl s) =
+          ap (λ z. get_or (set marks r true) z false) s ∙ get_or-set_same marks r true false (let w = m.whole in omega arith)
+          ∙ sym (true_some (λ k. eqb (room_of (claimed h e).room k) q) (suc i) i (omega arith) (eq-eqb _ _ (sym read ∙ sym s)))
+      mark q p (inr s) =
+          get_or-set_other marks r q true false s ∙ m.each q p
+          ∙ sym (some_skip (λ k. eqb (room_of (claimed h e).room k) q) i (ne_eqb _ _ (λ w. s (sym w ∙ sym read))))

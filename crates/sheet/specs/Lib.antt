@@ -6,6 +6,8 @@ pub mod Verdicts
 pub mod Texts
 pub mod Accepted
 pub mod Entries
+pub mod Pairs
+pub mod Statement
 pub mod Terms
 pub mod Share
 pub mod Report

@@ -1,17 +1,15 @@
 // Checking a group's sheet, whoever wrote it.
 ghost use Rattle.std.specs.Prelude.{◌≡◌};
+ghost use Rattle.rooms.specs.View.{house};
 ghost use Rattle.rents.specs.Shown.{Whole};
 ghost use Rattle.sheet.specs.Accepted.{AcceptedFair, AcceptedMeans, AcceptedPayable, AcceptedShown, FairAccepted, Payable, RefusedFalse, ShownAccepted};
 ghost use Rattle.sheet.specs.Entries.{claimed, entered};
 ghost use Rattle.sheet.specs.Judge.{judge, judge_sheet};
 ghost use Rattle.sheet.specs.Verdicts.{OneVerdict, Plain, meaning};
 ghost use Rattle.sheet.specs.declared.verdict.Verdict.TheVariants.{Accepted};
-ghost use Rattle.rooms.specs.View.{house};
 
 use super::entries::{Entries, read_entries};
-use super::faults::{first_number, first_numbers, first_room};
-use super::prices::{first_price, reckon, rent_off};
-use super::rows::{first_circle, first_length, first_way, first_ways};
+use super::statement::{Sharing, Statement, Terms};
 use super::verdict::Verdict;
 use super::write::sheet_len;
 use rooms::Group;
@@ -23,53 +21,46 @@ pub fn check(group: &[u8], sheet: &[u8]) -> Verdict
     ensures accepted { result ≡ Accepted → AcceptedMeans group.now sheet.now }
     ensures payable { result ≡ Accepted → Payable group.now sheet.now }
 {
-    let house = match Group::try_from(group) {
-        Ok(house) => house,
+    let group = match Group::try_from(group) {
+        Ok(group) => group,
         Err(refusal) => return Verdict::Group(refusal),
     };
-    let n = house.count();
+    let n = group.count();
     if sheet.len() != sheet_len(n) {
         return Verdict::Length(sheet.len());
     }
-    check_entries(&house, &read_entries(sheet, n))
+    check_entries(group, &read_entries(sheet, n))
 }
 
 // The tests in their order.
-fn check_entries(group: &Group, entries: &Entries) -> Verdict
-    requires { Whole (house group.now) (claimed (house group.now) entries.now) }
-    ensures judged { meaning result ≡ judge_sheet (house group.now) (entered (house group.now).n entries.now) }
+fn check_entries(group: Group, entries: &Entries) -> Verdict
+    requires { Whole (house group) (claimed (house group) entries.now) }
+    ensures judged { meaning result ≡ judge_sheet (house group.entry) (entered (house group.entry).n entries.now) }
     ensures plain { Plain result }
 {
-    let n = group.count();
-    let person = first_room(group, entries);
-    if person < n {
+    let stated = Statement { group, entries };
+    if let Some(person) = stated.first_room() {
         return Verdict::Rooms(person);
     }
-    let short = first_numbers(group, entries);
-    if short < n {
-        return Verdict::Numbers(short, first_number(group, entries, short));
+    if let Some((person, room)) = stated.first_numbers() {
+        return Verdict::Numbers(person, room);
     }
-    let wrong = first_length(group, entries);
-    if wrong < n {
-        return Verdict::Rows(wrong);
+    let sharing = Sharing { stated };
+    if let Some(person) = sharing.first_length() {
+        return Verdict::Rows(person);
     }
-    let circling = first_circle(group, entries);
-    if circling < n {
-        return Verdict::Rows(circling);
+    if let Some(person) = stated.first_circle() {
+        return Verdict::Rows(person);
     }
-    let from = first_ways(group, entries);
-    if from < n {
-        return Verdict::Way(from, first_way(group, entries, from));
+    if let Some((from, to)) = sharing.first_ways() {
+        return Verdict::Way(from, to);
     }
-    let terms = reckon(group, entries);
-    let room = first_price(group, entries, &terms);
-    if room < n {
-        if rent_off(group, entries, &terms, room) {
-            return Verdict::Rent(room);
-        }
-        return Verdict::Cents(room);
+    let terms = Terms::reckon(sharing);
+    match terms.first_price() {
+        None => Verdict::Accepted,
+        Some(room) if terms.rent_off(room) => Verdict::Rent(room),
+        Some(room) => Verdict::Cents(room),
     }
-    Verdict::Accepted
 }
 
 // What verdicts mean: what is accepted is shown with the right cents, and so is the fairest and can be paid; whatever is so is accepted; each refusal

@@ -1,15 +1,11 @@
 // What a sheet says, column by column.
-ghost use Rattle.std.specs.Prelude.{◌≡◌, ◌^◌, ◌<◌, ◌≤◌, length};
+ghost use Rattle.std.specs.Prelude.{◌≡◌, ◌≤◌, length};
 ghost use Rattle.rooms.specs.Format.{most_people};
-ghost use Rattle.rooms.specs.Rows.{number};
-ghost use Rattle.whole.specs.Bounds.{Within};
-ghost use Rattle.rents.specs.Faults.{differs};
 ghost use Rattle.sheet.specs.Format.{sheet_length, sheet_of};
 ghost use Rattle.sheet.specs.Entries.{entered};
 
 use super::columns::{byte_column, signed_column};
 use rooms::group::MOST_PEOPLE;
-use whole::wide_of;
 
 // The columns of a sheet: for each person the room, the person before and the length of the longest row, and a number for the joint worth; for each
 // room the rent, its cents, and a number for the joint worth. Nothing past the people.
@@ -38,20 +34,4 @@ pub fn read_entries(sheet: &[u8], n: usize) -> Entries
         persons: signed_column(sheet, 26 * n, 8, n),
         rooms: signed_column(sheet, 34 * n, 8, n),
     }
-}
-
-// Number i of a column, for exact sums.
-pub fn wide_at(numbers: &[i64; MOST_PEOPLE], i: usize) -> i128
-    requires { i < most_people }
-    ensures value { result ≡ number numbers.now i }
-    ensures within { Within (2 ^ 63) result }
-{
-    wide_of(numbers[i])
-}
-
-// Whether two numbers are not the same.
-pub fn differ(a: i128, b: i128) -> bool
-    ensures { result ≡ differs a b }
-{
-    a != b
 }

@@ -1,69 +1,69 @@
-// The tests of a sheet: each finds the first place at which the entries are at fault.
+// The tests of a sheet's rooms and of its numbers for the joint worth: each finds the first place that is at fault.
 ghost use Rattle.std.specs.Prelude.{◌≡◌, ◌<◌, ◌&&◌, ◌||◌, pos, ◌+ℤ◌, int_lt};
-ghost use Rattle.rooms.specs.First.{first, some};
-ghost use Rattle.rooms.specs.View.{house};
+ghost use Rattle.rooms.specs.First.{found};
 ghost use Rattle.rents.specs.Faults.{room_fault, number_fault};
-ghost use Rattle.sheet.specs.Entries.{claimed};
+ghost use Rattle.sheet.specs.Pairs.{found_pair};
+ghost use Rattle.sheet.specs.Statement.{claimed_by, house_in};
 
-use super::entries::Entries;
-use rooms::Group;
+use super::statement::Statement;
 use rooms::group::MOST_PEOPLE;
 use whole::wide_sum;
 
-// The first person who has no room, or an earlier person's.
-pub fn first_room(group: &Group, entries: &Entries) -> usize
-    ensures { result ≡ first (room_fault (house group.now) (claimed (house group.now) entries.now)) (house group.now).n }
-{
-    let n = group.count();
-    let mut taken = [false; MOST_PEOPLE];
-    for i in 0..n {
-        let r = entries.room[i] as usize;
-        if r >= n {
-            return i;
-        }
-        if taken[r] {
-            return i;
-        }
-        taken[r] = true;
-    }
-    n
-}
-
-// Whether the numbers of a person and a room are at fault: below the worth together, or above it where the room is the person's own.
-fn number_off(person: i64, room: i64, worth: u32, own: bool) -> bool
+// Whether the numbers of a person and a room are below the worth together, or above it where the room is the person's own.
+fn sum_off(person: i64, room: i64, worth: u32, own: bool) -> bool
     ensures { result ≡ (int_lt (person +ℤ room) (pos worth) || (own && int_lt (pos worth) (person +ℤ room))) }
 {
     let sum = wide_sum(person, room);
-    let worth = worth as i128;
+    let worth = i128::from(worth);
     sum < worth || (own && worth < sum)
 }
 
-// The first room whose number and that of person i are at fault.
-pub fn first_number(group: &Group, entries: &Entries, i: usize) -> usize
-    requires { i < (house group.now).n }
-    ensures { result ≡ first (number_fault (house group.now) (claimed (house group.now) entries.now) i) (house group.now).n }
-{
-    let n = group.count();
-    let worths = group.row(i);
-    let person = entries.persons[i];
-    let own = entries.room[i] as usize;
-    for r in 0..n {
-        if number_off(person, entries.rooms[r], worths[r], own == r) {
-            return r;
+impl Statement<'_> {
+    // The first person who has no room, or an earlier person's.
+    pub fn first_room(&self) -> Option<usize>
+        ensures { result ≡ found (room_fault (house_in self.now) (claimed_by self.now)) (house_in self.now).n }
+    {
+        let n = self.group.count();
+        let mut taken = [false; MOST_PEOPLE];
+        for i in 0..n {
+            let room = usize::from(self.entries.room[i]);
+            if room >= n || taken[room] {
+                return Some(i);
+            }
+            taken[room] = true;
         }
+        None
     }
-    n
-}
 
-// The first person with such a room.
-pub fn first_numbers(group: &Group, entries: &Entries) -> usize
-    ensures { result ≡ first (λ i. some (number_fault (house group.now) (claimed (house group.now) entries.now) i) (house group.now).n) (house group.now).n }
-{
-    let n = group.count();
-    for i in 0..n {
-        if first_number(group, entries, i) < n {
-            return i;
-        }
+    // Whether the numbers of person i and room r are at fault.
+    fn number_off(&self, i: usize, r: usize) -> bool
+        requires { (i < (house_in self.now).n) × (r < (house_in self.now).n) }
+        ensures { result ≡ number_fault (house_in self.now) (claimed_by self.now) i r }
+    {
+        let entries = self.entries;
+        let own = usize::from(entries.room[i]) == r;
+        sum_off(
+            entries.persons[i],
+            entries.rooms[r],
+            self.group.worth(i, r),
+            own,
+        )
     }
-    n
+
+    // The first room whose number and that of person i are at fault.
+    fn first_number(&self, i: usize) -> Option<usize>
+        requires { i < (house_in self.now).n }
+        ensures { result ≡ found (number_fault (house_in self.now) (claimed_by self.now) i) (house_in self.now).n }
+    {
+        (0..self.group.count()).find(|r| self.number_off(i, *r))
+    }
+
+    // The first person with such a room, and the room.
+    pub fn first_numbers(&self) -> Option<(usize, usize)>
+        ensures { result ≡ found_pair (number_fault (house_in self.now) (claimed_by self.now)) (house_in self.now).n }
+    {
+        let person = (0..self.group.count()).find(|i| self.first_number(*i).is_some())?;
+        let room = self.first_number(person)?;
+        Some((person, room))
+    }
 }

@@ -9,7 +9,7 @@ mod prices;
 pub mod report;
 mod rows;
 pub mod sharing;
-mod terms;
+mod statement;
 pub mod verdict;
 pub mod write;
 

@@ -1,88 +1,17 @@
 // The tests of the rents and cents: each is reckoned from the rooms and lengths of the sheet, exactly, whatever its numbers are.
 ghost use Rattle.std.specs.Prelude.{◌≡◌, ℕ, ◌^◌, ◌<◌, pos, ◌-ℤ◌, if◌then◌else◌, int_lt, slice_index};
-ghost use Rattle.rooms.specs.First.{first};
-ghost use Rattle.rooms.specs.House.{Housed, room_of, value};
+ghost use Rattle.rooms.specs.First.{found};
+ghost use Rattle.rooms.specs.House.{room_of, value};
 ghost use Rattle.rooms.specs.Rows.{number};
-ghost use Rattle.rooms.specs.View.{house};
 ghost use Rattle.whole.specs.Bounds.{Within};
 ghost use Rattle.rents.specs.Faults.{rent_fault};
 ghost use Rattle.rents.specs.Rents.{spare, whose};
-ghost use Rattle.sheet.specs.Entries.{claimed, entered};
 ghost use Rattle.sheet.specs.Judge.{cents_fault, price_fault};
-ghost use Rattle.sheet.specs.Terms.{Reckoned};
+ghost use Rattle.sheet.specs.Statement.{claimed_by, house_in, sheet_in};
 
-use super::entries::{Entries, differ, wide_at};
-use super::terms::Terms;
-use rooms::Group;
+use super::statement::{Sharing, Terms};
 use rooms::group::MOST_PEOPLE;
 use whole::{wide_add, wide_floor, wide_sub, wide_times};
-
-// What their room is worth to person i, less the length of their row.
-fn own_less(group: &Group, entries: &Entries, i: usize) -> i128
-    requires person { i < (house group.now).n }
-    requires housed { Housed (house group.now) (claimed (house group.now) entries.now).room }
-    ensures value { result ≡ value (house group.now) i (room_of (claimed (house group.now) entries.now).room i) -ℤ number (claimed (house group.now) entries.now).d i }
-    ensures within { Within (2 ^ 64) result }
-{
-    group.worth(i, entries.room[i] as usize) as i128 - wide_at(&entries.d, i)
-}
-
-// What is spare when everybody gains the length of their row.
-fn surplus(group: &Group, entries: &Entries) -> i128
-    requires { Housed (house group.now) (claimed (house group.now) entries.now).room }
-    ensures value { result ≡ spare (house group.now) (claimed (house group.now) entries.now).room (claimed (house group.now) entries.now).d }
-    ensures within { Within (2 ^ 70) result }
-{
-    let n = group.count();
-    let mut total = 0;
-    for i in 0..n {
-        total += own_less(group, entries, i);
-    }
-    total - group.rent() as i128
-}
-
-// Who has each room.
-fn tenants(group: &Group, entries: &Entries) -> [u8; MOST_PEOPLE]
-    requires { Housed (house group.now) (claimed (house group.now) entries.now).room }
-    ensures { (r : ℕ) → r < (house group.now).n → slice_index result r ≡ whose (house group.now) (claimed (house group.now) entries.now).room r }
-{
-    let n = group.count();
-    let mut tenant = [0; MOST_PEOPLE];
-    for i in 0..n {
-        tenant[entries.room[i] as usize] = i as u8;
-    }
-    tenant
-}
-
-// What all rents and cents are reckoned from: one surplus, and one division.
-pub fn reckon(group: &Group, entries: &Entries) -> Terms
-    requires { Housed (house group.now) (claimed (house group.now) entries.now).room }
-    ensures { Reckoned (house group.now) (claimed (house group.now) entries.now) result }
-{
-    let n = group.count() as u32;
-    let surplus = surplus(group, entries);
-    let even = wide_floor(-surplus, n);
-    let missing = wide_sub(-surplus, wide_times(even, n));
-    Terms {
-        surplus,
-        even,
-        missing,
-        tenant: tenants(group, entries),
-    }
-}
-
-// Whether the rent of room r is another than its tenant's.
-pub fn rent_off(group: &Group, entries: &Entries, terms: &Terms, r: usize) -> bool
-    requires room { r < (house group.now).n }
-    requires housed { Housed (house group.now) (claimed (house group.now) entries.now).room }
-    requires reckoned { Reckoned (house group.now) (claimed (house group.now) entries.now) terms.now }
-    ensures { result ≡ rent_fault (house group.now) (claimed (house group.now) entries.now) r }
-{
-    let n = group.count() as u32;
-    let mine = own_less(group, entries, terms.tenant[r] as usize);
-    let due = wide_sub(wide_times(mine, n), terms.surplus);
-    differ(wide_at(&entries.rents, r), due)
-}
 
 // One cent more for the first rooms, as many as cents are missing.
 fn cent_more(r: usize, missing: i128) -> i128
@@ -92,40 +21,102 @@ fn cent_more(r: usize, missing: i128) -> i128
     if (r as i128) < missing { 1 } else { 0 }
 }
 
-// Whether the cents of room r are others than its tenant's.
-fn cents_off(group: &Group, entries: &Entries, terms: &Terms, r: usize) -> bool
-    requires room { r < (house group.now).n }
-    requires housed { Housed (house group.now) (claimed (house group.now) entries.now).room }
-    requires reckoned { Reckoned (house group.now) (claimed (house group.now) entries.now) terms.now }
-    ensures { result ≡ cents_fault (house group.now) (entered (house group.now).n entries.now) r }
-{
-    let mine = own_less(group, entries, terms.tenant[r] as usize);
-    let down = wide_add(mine, terms.even);
-    let cents = wide_add(down, cent_more(r, terms.missing));
-    differ(wide_at(&entries.cents, r), cents)
+impl Sharing<'_> {
+    // What their room is worth to person i, less the length of their row.
+    fn own_less(&self, i: usize) -> i128
+        requires { i < (house_in self.now.stated).n }
+        ensures value { result ≡ value (house_in self.now.stated) i (room_of (claimed_by self.now.stated).room i) -ℤ number (claimed_by self.now.stated).d i }
+        ensures within { Within (2 ^ 64) result }
+    {
+        i128::from(self.stated.group.worth(i, self.room(i))) - self.stated.length(i)
+    }
+
+    // What is spare when everybody gains the length of their row.
+    fn surplus(&self) -> i128
+        ensures value { result ≡ spare (house_in self.now.stated) (claimed_by self.now.stated).room (claimed_by self.now.stated).d }
+        ensures within { Within (2 ^ 70) result }
+    {
+        let mut total = 0;
+        for i in 0..self.stated.group.count() {
+            total += self.own_less(i);
+        }
+        total - i128::from(self.stated.group.rent())
+    }
+
+    // Who has each room.
+    fn tenants(&self) -> [u8; MOST_PEOPLE]
+        ensures { (r : ℕ) → r < (house_in self.now.stated).n → slice_index result r ≡ whose (house_in self.now.stated) (claimed_by self.now.stated).room r }
+    {
+        let mut tenant = [0; MOST_PEOPLE];
+        for i in 0..self.stated.group.count() {
+            tenant[self.room(i)] = i as u8;
+        }
+        tenant
+    }
 }
 
-// Whether the rent or the cents of room r are at fault.
-fn price_off(group: &Group, entries: &Entries, terms: &Terms, r: usize) -> bool
-    requires room { r < (house group.now).n }
-    requires housed { Housed (house group.now) (claimed (house group.now) entries.now).room }
-    requires reckoned { Reckoned (house group.now) (claimed (house group.now) entries.now) terms.now }
-    ensures { result ≡ price_fault (house group.now) (entered (house group.now).n entries.now) r }
-{
-    rent_off(group, entries, terms, r) || cents_off(group, entries, terms, r)
-}
-
-// The first room whose rent or cents are at fault.
-pub fn first_price(group: &Group, entries: &Entries, terms: &Terms) -> usize
-    requires housed { Housed (house group.now) (claimed (house group.now) entries.now).room }
-    requires reckoned { Reckoned (house group.now) (claimed (house group.now) entries.now) terms.now }
-    ensures { result ≡ first (price_fault (house group.now) (entered (house group.now).n entries.now)) (house group.now).n }
-{
-    let n = group.count();
-    for r in 0..n {
-        if price_off(group, entries, terms, r) {
-            return r;
+impl<'a> Terms<'a> {
+    // What all rents and cents are reckoned from: one surplus, and one division.
+    pub fn reckon(sharing: Sharing<'a>) -> Terms<'a>
+        ensures { result.sharing ≡ sharing.entry }
+    {
+        let n = sharing.stated.group.count() as u32;
+        let surplus = sharing.surplus();
+        let even = wide_floor(-surplus, n);
+        let missing = wide_sub(-surplus, wide_times(even, n));
+        Terms {
+            sharing,
+            surplus,
+            even,
+            missing,
+            tenant: sharing.tenants(),
         }
     }
-    n
+
+    // What the room of whoever has room r is worth to them, less the length of their row.
+    fn own_less(&self, r: usize) -> i128
+        requires { r < (house_in self.now.sharing.stated).n }
+        ensures value { let i = whose (house_in self.now.sharing.stated) (claimed_by self.now.sharing.stated).room r in
+            result ≡ value (house_in self.now.sharing.stated) i (room_of (claimed_by self.now.sharing.stated).room i) -ℤ number (claimed_by self.now.sharing.stated).d i }
+        ensures within { Within (2 ^ 64) result }
+    {
+        self.sharing.own_less(usize::from(self.tenant[r]))
+    }
+
+    // Whether the rent of room r is another than its tenant's.
+    pub fn rent_off(&self, r: usize) -> bool
+        requires { r < (house_in self.now.sharing.stated).n }
+        ensures { result ≡ rent_fault (house_in self.now.sharing.stated) (claimed_by self.now.sharing.stated) r }
+    {
+        let entries = self.sharing.stated.entries;
+        let n = self.sharing.stated.group.count() as u32;
+        let due = wide_sub(wide_times(self.own_less(r), n), self.surplus);
+        i128::from(entries.rents[r]) != due
+    }
+
+    // Whether the cents of room r are others than its tenant's.
+    fn cents_off(&self, r: usize) -> bool
+        requires { r < (house_in self.now.sharing.stated).n }
+        ensures { result ≡ cents_fault (house_in self.now.sharing.stated) (sheet_in self.now.sharing.stated) r }
+    {
+        let entries = self.sharing.stated.entries;
+        let down = wide_add(self.own_less(r), self.even);
+        let cents = wide_add(down, cent_more(r, self.missing));
+        i128::from(entries.cents[r]) != cents
+    }
+
+    // Whether the rent or the cents of room r are at fault.
+    fn price_off(&self, r: usize) -> bool
+        requires { r < (house_in self.now.sharing.stated).n }
+        ensures { result ≡ price_fault (house_in self.now.sharing.stated) (sheet_in self.now.sharing.stated) r }
+    {
+        self.rent_off(r) || self.cents_off(r)
+    }
+
+    // The first room whose rent or cents are at fault.
+    pub fn first_price(&self) -> Option<usize>
+        ensures { result ≡ found (price_fault (house_in self.now.sharing.stated) (sheet_in self.now.sharing.stated)) (house_in self.now.sharing.stated).n }
+    {
+        (0..self.sharing.stated.group.count()).find(|r| self.price_off(*r))
+    }
 }

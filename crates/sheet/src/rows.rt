@@ -1,126 +1,133 @@
-// The tests of the longest rows: each finds the first place at which the entries are at fault.
-ghost use Rattle.std.specs.Prelude.{◌≡◌, ◌<◌, ◌≤◌, take, ◌+ℤ◌};
-ghost use Rattle.rooms.specs.Before.{leads_back, on_circle};
-ghost use Rattle.rooms.specs.First.{first, some};
-ghost use Rattle.rooms.specs.Format.{most_people};
-ghost use Rattle.rooms.specs.House.{Housed};
+// The tests of the longest rows: each finds the first place that is at fault.
+ghost use Rattle.std.specs.Prelude.{◌≡◌, ◌≢◌, ◌^◌, ◌<◌, ◌+ℤ◌, MatchOption};
+ghost use Rattle.rooms.specs.Before.{leads_back, nobody, on_circle, prior};
+ghost use Rattle.rooms.specs.First.{found};
+ghost use Rattle.rooms.specs.House.{room_of};
 ghost use Rattle.rooms.specs.Rows.{number, way};
-ghost use Rattle.rooms.specs.View.{house};
+ghost use Rattle.whole.specs.Bounds.{Within};
 ghost use Rattle.rents.specs.Faults.{length_fault, way_fault};
-ghost use Rattle.sheet.specs.Entries.{Linked, claimed};
+ghost use Rattle.sheet.specs.Entries.{Linked};
+ghost use Rattle.sheet.specs.Pairs.{found_pair};
+ghost use Rattle.sheet.specs.Statement.{claimed_by, house_in};
 
-use super::entries::{Entries, differ, wide_at};
-use rooms::Group;
+use super::statement::{Sharing, Statement};
+use longest::NOBODY;
 
-// Stands for nobody before a person.
-const NOBODY: usize = 255;
-
-// The length of person k's row and the way from k to i.
-fn reach(group: &Group, entries: &Entries, k: usize, i: usize) -> i128
-    requires persons { (k < (house group.now).n) × (i < (house group.now).n) }
-    requires housed { Housed (house group.now) (claimed (house group.now) entries.now).room }
-    ensures { result ≡ number (claimed (house group.now) entries.now).d k +ℤ way (house group.now) (claimed (house group.now) entries.now).room k i }
-{
-    let room = entries.room[k] as usize;
-    let seen = group.worth(i, room) as i128;
-    let own = group.worth(k, room) as i128;
-    wide_at(&entries.d, k) + (seen - own)
-}
-
-// Whether person i's length or person before is at fault.
-fn length_off(group: &Group, entries: &Entries, i: usize) -> bool
-    requires persons { i < (house group.now).n }
-    requires housed { Housed (house group.now) (claimed (house group.now) entries.now).room }
-    ensures { result ≡ length_fault (house group.now) (claimed (house group.now) entries.now) i }
-{
-    let n = group.count();
-    let d = wide_at(&entries.d, i);
-    if d < 0 {
-        return true;
+impl Statement<'_> {
+    // The length of person i's row.
+    pub fn length(&self, i: usize) -> i128
+        requires { i < (house_in self.now).n }
+        ensures value { result ≡ number (claimed_by self.now).d i }
+        ensures within { Within (2 ^ 63) result }
+    {
+        i128::from(self.entries.d[i])
     }
-    let before = entries.before[i] as usize;
-    if before == NOBODY {
-        return differ(d, 0);
-    }
-    if before >= n {
-        return true;
-    }
-    differ(d, reach(group, entries, before, i))
-}
 
-// The first person whose length or person before is at fault.
-pub fn first_length(group: &Group, entries: &Entries) -> usize
-    requires { Housed (house group.now) (claimed (house group.now) entries.now).room }
-    ensures { result ≡ first (length_fault (house group.now) (claimed (house group.now) entries.now)) (house group.now).n }
-{
-    let n = group.count();
-    for i in 0..n {
-        if length_off(group, entries, i) {
-            return i;
+    // Who stands before person i.
+    fn before(&self, i: usize) -> Option<usize>
+        requires { i < (house_in self.now).n }
+        ensures { MatchOption result (prior (claimed_by self.now).before i ≡ nobody)
+            (λ k. (prior (claimed_by self.now).before i ≡ k) × (k ≢ nobody)) }
+    {
+        let entries = self.entries;
+        let before = entries.before[i];
+        if before == NOBODY {
+            None
+        } else {
+            Some(usize::from(before))
         }
     }
-    n
-}
 
-// Whether going back from j comes to i within as many persons as are left.
-fn leads_back(entries: &Entries, n: usize, left: usize, i: usize, j: usize) -> bool
-    requires few { n ≤ most_people }
-    requires person { j < n }
-    requires linked { Linked (take n entries.now.before) n }
-    ensures { result ≡ leads_back (take n entries.now.before) left i j }
-{
-    if left == 0 {
-        return false;
-    }
-    let before = entries.before[j] as usize;
-    if before == NOBODY {
-        return false;
-    }
-    if before == i {
-        return true;
-    }
-    leads_back(entries, n, left - 1, i, before)
-}
-
-// The first person who stands on a circle of persons before.
-pub fn first_circle(group: &Group, entries: &Entries) -> usize
-    requires { Linked (claimed (house group.now) entries.now).before (house group.now).n }
-    ensures { result ≡ first (on_circle (claimed (house group.now) entries.now).before (house group.now).n) (house group.now).n }
-{
-    let n = group.count();
-    for i in 0..n {
-        if leads_back(entries, n, n, i, i) {
-            return i;
+    // Whether going back from j comes to i within as many persons as are left.
+    fn leads_back(&self, left: usize, i: usize, j: usize) -> bool
+        requires person { j < (house_in self.now).n }
+        requires linked { Linked (claimed_by self.now).before (house_in self.now).n }
+        ensures { result ≡ leads_back (claimed_by self.now).before left i j }
+    {
+        if left == 0 {
+            return false;
+        }
+        match self.before(j) {
+            None => false,
+            Some(before) => before == i || self.leads_back(left - 1, i, before),
         }
     }
-    n
+
+    // The first person who stands on a circle of persons before.
+    pub fn first_circle(&self) -> Option<usize>
+        requires { Linked (claimed_by self.now).before (house_in self.now).n }
+        ensures { result ≡ found (on_circle (claimed_by self.now).before (house_in self.now).n) (house_in self.now).n }
+    {
+        let n = self.group.count();
+        (0..n).find(|i| self.leads_back(n, *i, *i))
+    }
 }
 
-// The first person to whom the way from k leads to more.
-pub fn first_way(group: &Group, entries: &Entries, k: usize) -> usize
-    requires person { k < (house group.now).n }
-    requires housed { Housed (house group.now) (claimed (house group.now) entries.now).room }
-    ensures { result ≡ first (way_fault (house group.now) (claimed (house group.now) entries.now) k) (house group.now).n }
-{
-    let n = group.count();
-    for i in 0..n {
-        if wide_at(&entries.d, i) < reach(group, entries, k, i) {
-            return i;
-        }
+impl Sharing<'_> {
+    // Person i's room.
+    pub fn room(&self, i: usize) -> usize
+        requires { i < (house_in self.now.stated).n }
+        ensures own { result ≡ room_of (claimed_by self.now.stated).room i }
+        ensures below { result < (house_in self.now.stated).n }
+    {
+        usize::from(self.stated.entries.room[i])
     }
-    n
-}
 
-// The first person from whom a way leads to more.
-pub fn first_ways(group: &Group, entries: &Entries) -> usize
-    requires { Housed (house group.now) (claimed (house group.now) entries.now).room }
-    ensures { result ≡ first (λ k. some (way_fault (house group.now) (claimed (house group.now) entries.now) k) (house group.now).n) (house group.now).n }
-{
-    let n = group.count();
-    for k in 0..n {
-        if first_way(group, entries, k) < n {
-            return k;
+    // The length of person k's row and the way from k to i.
+    fn reach(&self, k: usize, i: usize) -> i128
+        requires { (k < (house_in self.now.stated).n) × (i < (house_in self.now.stated).n) }
+        ensures { result ≡ number (claimed_by self.now.stated).d k +ℤ way (house_in self.now.stated) (claimed_by self.now.stated).room k i }
+    {
+        let room = self.room(k);
+        let seen = i128::from(self.stated.group.worth(i, room));
+        let own = i128::from(self.stated.group.worth(k, room));
+        self.stated.length(k) + (seen - own)
+    }
+
+    // Whether person i's length or person before is at fault.
+    fn length_off(&self, i: usize) -> bool
+        requires { i < (house_in self.now.stated).n }
+        ensures { result ≡ length_fault (house_in self.now.stated) (claimed_by self.now.stated) i }
+    {
+        let d = self.stated.length(i);
+        if d < 0 {
+            return true;
+        }
+        match self.stated.before(i) {
+            None => d != 0,
+            Some(before) => before >= self.stated.group.count() || d != self.reach(before, i),
         }
     }
-    n
+
+    // The first person whose length or person before is at fault.
+    pub fn first_length(&self) -> Option<usize>
+        ensures { result ≡ found (length_fault (house_in self.now.stated) (claimed_by self.now.stated)) (house_in self.now.stated).n }
+    {
+        (0..self.stated.group.count()).find(|i| self.length_off(*i))
+    }
+
+    // Whether the way from k to i leads to more.
+    fn way_off(&self, k: usize, i: usize) -> bool
+        requires { (k < (house_in self.now.stated).n) × (i < (house_in self.now.stated).n) }
+        ensures { result ≡ way_fault (house_in self.now.stated) (claimed_by self.now.stated) k i }
+    {
+        self.stated.length(i) < self.reach(k, i)
+    }
+
+    // The first person to whom the way from k leads to more.
+    fn first_way(&self, k: usize) -> Option<usize>
+        requires { k < (house_in self.now.stated).n }
+        ensures { result ≡ found (way_fault (house_in self.now.stated) (claimed_by self.now.stated) k) (house_in self.now.stated).n }
+    {
+        (0..self.stated.group.count()).find(|i| self.way_off(k, *i))
+    }
+
+    // The first person from whom a way leads to more, and to whom.
+    pub fn first_ways(&self) -> Option<(usize, usize)>
+        ensures { result ≡ found_pair (way_fault (house_in self.now.stated) (claimed_by self.now.stated)) (house_in self.now.stated).n }
+    {
+        let from = (0..self.stated.group.count()).find(|k| self.first_way(*k).is_some())?;
+        let to = self.first_way(from)?;
+        Some((from, to))
+    }
 }

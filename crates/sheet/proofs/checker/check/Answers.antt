@@ -9,7 +9,7 @@ use Rattle.sheet.proofs.checker.check.Goals as goal
 
 pub check_entries-requires : goal.check_entries-requires
 check_entries-requires c =
-    claimed_whole (house_of c.in-Ok.house.bytes.now) c.read_entries.result c.args.sheet.now c.count-n.result c.count-n.ensures.people
+    claimed_whole (house_of c.in-Ok.group.bytes.now) c.read_entries.result c.args.sheet.now c.count-n.result c.count-n.ensures.people
     c.read_entries.ensures
 
 pub returns-in-Err : goal.returns-in-Err
@@ -31,7 +31,7 @@ pub returns : goal.returns
 returns c =
     let g = c.args.group.now in
     let s = c.args.sheet.now in
-    let b = c.in-Ok.house.bytes.now in
+    let b = c.in-Ok.group.bytes.now in
     let n : c.count-n.result ≡ (house_of g).n = c.count-n.ensures.people ∙ ap (λ (b : List ℕ). (house_of b).n) c.in-Ok.ensures.0 in
     let l : length s ≡ sheet_length (house_of g).n = c.if-sheet-sheet_len.false ∙ c.sheet_len.ensures ∙ ap sheet_length n in
     let e = entered_whole (house_of b) c.read_entries.result s c.count-n.result c.count-n.ensures.people c.read_entries.ensures in

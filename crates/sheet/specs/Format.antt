@@ -39,12 +39,15 @@ sheet_bytes n s =
     ++ (flat_map (room_bytes s) (range_with_len 0 n)
     ++ (flat_map (λ i. signed_bytes (number s.claim.persons i)) (range_with_len 0 n) ++ flat_map (λ r. signed_bytes (number s.claim.rooms r)) (range_with_len 0 n)))
 
--- n bytes, or n signed numbers, from a place on, each a step after the last.
+-- n entries, each as it is read at a place, from a place on, each a step after the last; and of these n bytes, or n signed numbers.
+abbrev pub column_of : {X : Type 0} → (List ℕ → ℕ → X) → List ℕ → ℕ → ℕ → ℕ → List X
+column_of read s at step n = map (λ k. read s (at + step * k)) (range_with_len 0 n)
+
 abbrev pub byte_column : List ℕ → ℕ → ℕ → ℕ → List ℕ
-byte_column s at step n = map (λ k. slice_index s (at + step * k)) (range_with_len 0 n)
+byte_column = column_of (λ s at. slice_index s at)
 
 abbrev pub column : List ℕ → ℕ → ℕ → ℕ → List ℤ
-column s at step n = map (λ k. signed_at s (at + step * k)) (range_with_len 0 n)
+column = column_of signed_at
 
 -- What the bytes of a sheet for n people say.
 unfoldable pub sheet_of : ℕ → List ℕ → Sheet

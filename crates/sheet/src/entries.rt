@@ -4,7 +4,7 @@ ghost use Rattle.rooms.specs.Format.{most_people};
 ghost use Rattle.sheet.specs.Format.{sheet_length, sheet_of};
 ghost use Rattle.sheet.specs.Entries.{entered};
 
-use super::columns::{byte_column, signed_column};
+use super::columns::column;
 use rooms::group::MOST_PEOPLE;
 
 // The columns of a sheet: for each person the room, the person before and the length of the longest row, and a number for the joint worth; for each
@@ -26,12 +26,12 @@ pub fn read_entries(sheet: &[u8], n: usize) -> Entries
     ensures { entered n result ≡ sheet_of n sheet.now }
 {
     Entries {
-        room: byte_column(sheet, 0, 10, n),
-        before: byte_column(sheet, 1, 10, n),
-        d: signed_column(sheet, 2, 10, n),
-        rents: signed_column(sheet, 10 * n, 16, n),
-        cents: signed_column(sheet, 10 * n + 8, 16, n),
-        persons: signed_column(sheet, 26 * n, 8, n),
-        rooms: signed_column(sheet, 34 * n, 8, n),
+        room: column(sheet, 0, 10, n),
+        before: column(sheet, 1, 10, n),
+        d: column(sheet, 2, 10, n),
+        rents: column(sheet, 10 * n, 16, n),
+        cents: column(sheet, 10 * n + 8, 16, n),
+        persons: column(sheet, 26 * n, 8, n),
+        rooms: column(sheet, 34 * n, 8, n),
     }
 }

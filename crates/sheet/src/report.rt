@@ -29,8 +29,7 @@ impl fmt::Display for JointLine {
     ghost output = { λ x. Some (joint_text x.0) };
 
     fn fmt<W: fmt::Write>(&self, f: &mut fmt::Formatter<W>) -> fmt::Result {
-        let worth = self.0;
-        write!(f, "joint {worth}")
+        write!(f, "joint {}", self.0)
     }
 }
 
@@ -38,9 +37,7 @@ impl fmt::Display for PersonLine {
     ghost output = { λ x. Some (person_text x.person x.room x.pays) };
 
     fn fmt<W: fmt::Write>(&self, f: &mut fmt::Formatter<W>) -> fmt::Result {
-        let person = self.person;
-        let room = self.room;
-        let pays = self.pays;
+        let PersonLine { person, room, pays } = *self;
         write!(f, "person {person} room {room} pays {pays}")
     }
 }
@@ -49,8 +46,7 @@ impl fmt::Display for LeastLine {
     ghost output = { λ x. Some (least_text x.least x.people) };
 
     fn fmt<W: fmt::Write>(&self, f: &mut fmt::Formatter<W>) -> fmt::Result {
-        let least = self.least;
-        let people = self.people;
+        let LeastLine { least, people } = *self;
         write!(f, "least {least} of {people}")
     }
 }
@@ -59,17 +55,14 @@ impl fmt::Display for LeastLine {
 pub fn person_line(rooms: &[u32], rents: &[u64], n: usize, i: usize) -> Option<PersonLine>
     ensures { result ≡ line_of rooms.now rents.now n i }
 {
-    if n > MOST_PEOPLE || i >= rooms.len() {
+    if n > MOST_PEOPLE {
         return None;
     }
-    let room = rooms[i];
-    let at = n + room as usize;
-    if at >= rents.len() {
-        return None;
-    }
+    let room = *rooms.get(i)?;
+    let pays = *rents.get(n + room as usize)?;
     Some(PersonLine {
         person: i,
         room,
-        pays: signed_of(rents[at]),
+        pays: signed_of(pays),
     })
 }

@@ -12,7 +12,7 @@ ghost use Rattle.rents.specs.Rents.{spare};
 ghost use Rattle.sheet.specs.Format.{sheet_bytes, sheet_length};
 ghost use Rattle.sheet.specs.Share.{lengths_of, priors_of, fair_rents, fair_cents, sheet_for, lent_enough, Shares, Refuses, AlwaysFair, AlwaysLeast, LeastGain};
 
-use super::write::{sheet_len, write_sheet};
+use super::write::{Draft, sheet_len, write_sheet};
 use assignment::{Assignment, assign, work_len};
 use cents::write_cents;
 use longest::{LongestRows, longest_rows};
@@ -120,7 +120,8 @@ fn price(group: &Group, rooms: &[u32], d: [u64; MOST_PEOPLE], rents: &mut [u64])
     outcome
 }
 
-// The share of a group that is taken, on slices that are long enough.
+// The share of a group that is taken, on slices that are long enough. The four stay beside one another: of a struct of slices that are lent to be
+// written no ghost field can say how long they are.
 fn solve(
     group: &Group,
     rooms: &mut [u32],
@@ -143,18 +144,20 @@ fn solve(
     let n = group.count();
     let found = assign(group, rooms, work);
     let placed = &rooms[0..n];
-    let rows = rows_of(group, placed, found, work);
-    let outcome = price(group, placed, rows.d, rents);
-    write_sheet(
+    let LongestRows { d, before, .. } = rows_of(group, placed, found, work);
+    let outcome = price(group, placed, d, rents);
+    let persons = found.persons;
+    let prices = found.rooms;
+    let draft = Draft {
         n,
-        placed,
-        rows.before,
-        rows.d,
+        rooms: placed,
+        before,
+        d,
         rents,
-        found.persons,
-        found.rooms,
-        sheet,
-    );
+        persons,
+        prices,
+    };
+    write_sheet(&draft, sheet);
     Shared {
         people: n,
         joint: outcome.joint,

@@ -68,10 +68,7 @@ fn with_bytes(group: &[u8], sheet: &[u8; 84], i: usize, x: u8, k: usize, y: u8) 
 }
 
 fn fault(group: &[u8], sheet: &[u8]) -> (u32, u128) {
-    match check(group, sheet).fault() {
-        None => (0, 0),
-        Some(at) => at,
-    }
+    check(group, sheet).fault().unwrap_or((0, 0))
 }
 
 // A place, the number that is put there, and the fault.

@@ -7,6 +7,7 @@ ghost use Rattle.sheet.specs.Verdicts.{meaning};
 use rooms::Refusal;
 use std::fmt;
 
+// An enum of its own, and no Result: to accept is an answer like the others, each with its number.
 #[derive(Clone, Copy, PartialEq, Eq, Debug)]
 pub enum Verdict {
     Accepted,

@@ -1,5 +1,5 @@
 // Writing a sheet's bytes, part by part.
-ghost use Rattle.std.specs.Prelude.{◌≡◌, ℕ, ◌+◌, ◌*◌, ◌<◌, ◌≤◌, ◌++◌, length, drop};
+ghost use Rattle.std.specs.Prelude.{◌≡◌, ℕ, ◌+◌, ◌*◌, ◌^◌, ◌<◌, ◌≤◌, ◌++◌, length, drop, slice_index};
 ghost use Rattle.std.proofs.Math.Seq.{paste};
 ghost use Rattle.std.specs.List.{range_with_len, flat_map};
 ghost use Rattle.rooms.specs.Format.{most_people};
@@ -19,52 +19,53 @@ pub fn sheet_len(n: usize) -> usize
     42 * n
 }
 
-// The sheet for n people, at the front of the slice: their rooms, the persons before and the lengths of the longest
-// rows; of each room n times its rent and its cents, as they stand in `rents`; and the numbers for the joint worth.
-pub fn write_sheet(
-    n: usize,
-    rooms: &[u32],
-    before: [u8; MOST_PEOPLE],
-    d: [u64; MOST_PEOPLE],
-    rents: &[u64],
-    persons: [u64; MOST_PEOPLE],
-    prices: [u64; MOST_PEOPLE],
-    sheet: &mut [u8],
-)
-    requires few { n ≤ most_people }
-    requires roomy { (n ≤ length rooms.now) × ((n + n ≤ length rents.now) × (sheet_length n ≤ length sheet.old)) }
-    requires small { (i : ℕ) → i < n → room_of rooms.now i < 256 }
-    ensures { sheet.new ≡ sheet_bytes n (handed n rooms.now before d rents.now persons prices) ++ drop (sheet_length n) sheet.old }
-{
-    write_persons(n, rooms, before, d, sheet);
-    write_rooms(n, rents, sheet);
-    write_numbers(n, persons, 26 * n, sheet);
-    write_numbers(n, prices, 34 * n, sheet);
+// What is written on the sheet for n people: their rooms, the persons before and the lengths of the longest rows; of each
+// room n times its rent and its cents, as they stand in `rents`; and the numbers for the joint worth.
+#[derive(Clone, Copy)]
+pub struct Draft<'a> {
+    pub n: usize,
+    pub rooms: &'a [u32],
+    pub before: [u8; MOST_PEOPLE],
+    pub d: [u64; MOST_PEOPLE],
+    pub rents: &'a [u64],
+    pub persons: [u64; MOST_PEOPLE],
+    pub prices: [u64; MOST_PEOPLE],
+    ghost few: { n ≤ most_people },
+    ghost roomy: { (n ≤ length rooms.now) × (n + n ≤ length rents.now) },
+    ghost small: { (i : ℕ) → i < n → room_of rooms.now i < 256 },
 }
 
-fn write_persons(
-    n: usize,
-    rooms: &[u32],
-    before: [u8; MOST_PEOPLE],
-    d: [u64; MOST_PEOPLE],
-    sheet: &mut [u8],
-)
-    requires few { n ≤ most_people }
-    requires roomy { (n ≤ length rooms.now) × (10 * n ≤ length sheet.old) }
-    requires small { (i : ℕ) → i < n → room_of rooms.now i < 256 }
-    ensures { sheet.new ≡ paste sheet.old 0 (flat_map (person_part rooms.now before d) (range_with_len 0 n)) (10 * n) }
+// The sheet, at the front of the slice.
+pub fn write_sheet(draft: &Draft, sheet: &mut [u8])
+    requires { sheet_length draft.now.n ≤ length sheet.old }
+    ensures { sheet.new ≡ sheet_bytes draft.now.n
+        (handed draft.now.n draft.now.rooms.now draft.now.before draft.now.d draft.now.rents.now draft.now.persons draft.now.prices)
+        ++ drop (sheet_length draft.now.n) sheet.old }
 {
-    for i in 0..n {
-        sheet[10 * i] = rooms[i] as u8;
-        sheet[10 * i + 1] = before[i];
-        write_u64(sheet, 10 * i + 2, d[i]);
+    let Draft { n, rents, .. } = *draft;
+    write_persons(draft, sheet);
+    write_rooms(n, rents, sheet);
+    write_numbers(n, draft.persons, 26 * n, sheet);
+    write_numbers(n, draft.prices, 34 * n, sheet);
+}
+
+// This part and the next two are written by index: a piece that chunks_mut lends leaves nothing known of its bytes.
+fn write_persons(draft: &Draft, sheet: &mut [u8])
+    requires { 10 * draft.now.n ≤ length sheet.old }
+    ensures { sheet.new ≡ paste sheet.old 0 (flat_map (person_part draft.now.rooms.now draft.now.before draft.now.d) (range_with_len 0 draft.now.n)) (10 * draft.now.n) }
+{
+    for i in 0..draft.n {
+        sheet[10 * i] = draft.rooms[i] as u8;
+        sheet[10 * i + 1] = draft.before[i];
+        write_u64(sheet, 10 * i + 2, draft.d[i]);
     }
 }
 
 fn write_rooms(n: usize, rents: &[u64], sheet: &mut [u8])
     requires few { n ≤ most_people }
     requires roomy { (n + n ≤ length rents.now) × (26 * n ≤ length sheet.old) }
-    ensures { sheet.new ≡ paste sheet.old (10 * n) (flat_map (room_part n rents.now) (range_with_len 0 n)) (16 * n) }
+    ensures written { sheet.new ≡ paste sheet.old (10 * n) (flat_map (room_part n rents.now) (range_with_len 0 n)) (16 * n) }
+    ensures fits { (k : ℕ) → slice_index rents.now k < 2 ^ 64 }
 {
     for r in 0..n {
         write_u64(sheet, 10 * n + 16 * r, rents[r]);
@@ -112,16 +113,16 @@ mod tests {
         let mut prices = [0; MOST_PEOPLE];
         prices[0] = 10;
         let mut sheet = [7; 86];
-        write_sheet(
-            2,
-            &[1, 0],
-            [255; MOST_PEOPLE],
-            [0; MOST_PEOPLE],
-            &[110, 90, 55, 45],
-            [70; MOST_PEOPLE],
+        let draft = Draft {
+            n: 2,
+            rooms: &[1, 0],
+            before: [255; MOST_PEOPLE],
+            d: [0; MOST_PEOPLE],
+            rents: &[110, 90, 55, 45],
+            persons: [70; MOST_PEOPLE],
             prices,
-            &mut sheet,
-        );
+        };
+        write_sheet(&draft, &mut sheet);
         assert_eq!(rt; sheet, *WORKED);
     }
 
@@ -130,22 +131,22 @@ mod tests {
     fn below_nothing(rt: HostRuntime) {
         let mut sheet = [0; 42];
         let rents = [bits_of(-4), bits_of(-0x8000_0000_0000_0000)];
-        write_sheet(
-            1,
-            &[9, 9],
-            [3; MOST_PEOPLE],
-            [258; MOST_PEOPLE],
-            &rents,
-            [1; MOST_PEOPLE],
-            [2; MOST_PEOPLE],
-            &mut sheet,
-        );
-        assert_eq!(rt; byte_column(&sheet, 0, 10, 1)[0], 9);
-        assert_eq!(rt; byte_column(&sheet, 1, 10, 1)[0], 3);
-        assert_eq!(rt; signed_column(&sheet, 2, 10, 1)[0], 258);
-        assert_eq!(rt; signed_column(&sheet, 10, 16, 1)[0], -4);
-        assert_eq!(rt; signed_column(&sheet, 18, 16, 1)[0], -0x8000_0000_0000_0000);
-        let numbers = signed_column(&sheet, 26, 8, 2);
+        let draft = Draft {
+            n: 1,
+            rooms: &[9, 9],
+            before: [3; MOST_PEOPLE],
+            d: [258; MOST_PEOPLE],
+            rents: &rents,
+            persons: [1; MOST_PEOPLE],
+            prices: [2; MOST_PEOPLE],
+        };
+        write_sheet(&draft, &mut sheet);
+        assert_eq!(rt; column::<u8>(&sheet, 0, 10, 1)[0], 9);
+        assert_eq!(rt; column::<u8>(&sheet, 1, 10, 1)[0], 3);
+        assert_eq!(rt; column::<i64>(&sheet, 2, 10, 1)[0], 258);
+        assert_eq!(rt; column::<i64>(&sheet, 10, 16, 1)[0], -4);
+        assert_eq!(rt; column::<i64>(&sheet, 18, 16, 1)[0], -0x8000_0000_0000_0000);
+        let numbers = column::<i64>(&sheet, 26, 8, 2);
         assert_eq!(rt; [numbers[0], numbers[1], numbers[2]], [1, 2, 0]);
     }
 }

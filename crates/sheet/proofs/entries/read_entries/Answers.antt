@@ -3,5 +3,5 @@ use Rattle.sheet.proofs.entries.read_entries.Goals as goal
 
 pub returns : goal.returns
 returns c =
-    entered_is c.args.sheet.now c.args.n _ c.byte_column.ensures.whole c.byte_column-2.ensures.whole c.signed_column.ensures.whole
-    c.signed_column-2.ensures.whole c.signed_column-3.ensures.whole c.signed_column-4.ensures.whole c.signed_column-5.ensures.whole
+    entered_is c.args.sheet.now c.args.n _ c.column.ensures.whole c.column-2.ensures.whole c.column-3.ensures.whole c.column-4.ensures.whole
+    c.column-5.ensures.whole c.column-6.ensures.whole c.column-7.ensures.whole

@@ -5,8 +5,8 @@ use Rattle.assignment.specs.Answer.{work_for}
 use Rattle.sheet.proofs.Laid.{clean_again, front_as, sheet_as}
 use Rattle.sheet.proofs.sharing.solve.Goals as goal
 
-pub rows_of-rows-requires : goal.rows_of-rows-requires
-rows_of-rows-requires c =
+pub rows_of-requires : goal.rows_of-requires
+rows_of-requires c =
     let h = house_of c.args.group.now.bytes.now in
     let a = c.count-n.ensures.allowed in
     record {
@@ -21,8 +21,8 @@ price-outcome-requires c =
     let a = c.count-n.ensures.allowed in
     record {
       rooms = (front_as h a _ _ _ c.count-n.ensures.people c.assign-found.ensures.sharing, a);
-      lengths = c.rows_of-rows.ensures.lengths;
-      measured = c.rows_of-rows.ensures.measured;
+      lengths = c.rows_of.ensures.lengths;
+      measured = c.rows_of.ensures.measured;
       enough = omega arith;
     }
 
@@ -37,13 +37,13 @@ returns c =
       rooms = c.assign-found.ensures.sharing;
       rents = c.price-outcome.ensures.rents;
       work =
-          c.rows_of-rows.ensures.clean
+          c.rows_of.ensures.clean
           ∙ ap (λ zs. replicate (h.n * h.n) 0 ++ drop (h.n * h.n) zs) c.assign-found.ensures.clean
           ∙ clean_again (h.n * h.n) (work_for h.n) (drop (work_for h.n) c.args.work.now) (omega arith);
       sheet =
           c.write_sheet.ensures
-          ∙ sheet_as h a _ _ _ _ _ _ _ _ _ en (front_as h a _ _ _ en c.assign-found.ensures.sharing) c.rows_of-rows.ensures.priors
-          c.rows_of-rows.ensures.lengths c.price-outcome.ensures.rents c.assign-found.ensures.persons c.assign-found.ensures.prices;
+          ∙ sheet_as h a _ _ _ _ _ _ _ _ _ en (front_as h a _ _ _ en c.assign-found.ensures.sharing) c.rows_of.ensures.priors
+          c.rows_of.ensures.lengths c.price-outcome.ensures.rents c.assign-found.ensures.persons c.assign-found.ensures.prices;
       people = en;
       joint = to_z-of_z w64 _ fj ∙ c.price-outcome.ensures.joint;
       least = to_z-of_z w64 _ fl ∙ c.price-outcome.ensures.least;

@@ -12,9 +12,9 @@ use Rattle.sheet.proofs.write.write_persons.Goals as goal
 pub loop-i-preserved : goal.loop-i-preserved
 loop-i-preserved c =
     let i = c.loop-i.i in
-    let rooms = c.args.rooms.now in
-    let before = c.args.before in
-    let d = c.args.d in
+    let rooms = c.args.draft.now.rooms.now in
+    let before = c.args.draft.now.before in
+    let d = c.args.draft.now.d in
     let at = 10 * i in
     let l : length before ≡ most_people = search rules in
     let b : get_or before i 0 ≡ prior before i = get_or_default before i 0 nobody (omega arith) in

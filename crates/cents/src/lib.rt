@@ -11,7 +11,7 @@ ghost use Rattle.whole.specs.Floor.{floor};
 ghost use Rattle.rents.specs.Answer.{Roundable, bits, held};
 ghost use Rattle.cents.specs.Cents.{missing_cents, extra, cents_of, Rounded, CentsRounded, OnlyCents, NearContent};
 
-use whole::{bits_of, difference, floor_div, signed_of, sum};
+use whole::{Whole, Word};
 
 // The rents in cents, as bits, into the n places after the first n, which hold n × the rents as bits and are kept. What
 // lies past is kept too.
@@ -24,7 +24,7 @@ pub fn write_cents(n: usize, rent: u32, rents: &mut [u64])
 {
     let missing = missing_cents(n, rent, rents);
     for r in 0..n {
-        rents[n + r] = bits_of(in_cents(floor_at(n, rents, r), r, missing));
+        rents[n + r] = in_cents(floor_at(n, rents, r), r, missing).bits();
     }
 }
 
@@ -40,7 +40,7 @@ fn floor_at(n: usize, rents: &[u64], r: usize) -> i64
     requires { (0 < n) × ((n ≤ most_people) × (r < length rents.now)) }
     ensures { result ≡ floor (to_z w64 (slice_index rents.now r)) n }
 {
-    floor_div(signed_of(rents[r]), n as u32)
+    i64::of_bits(rents[r]).floor_div(n as u32)
 }
 
 // How many cents are missing when every room pays its rent rounded toward lower numbers.
@@ -48,11 +48,11 @@ fn missing_cents(n: usize, rent: u32, rents: &[u64]) -> i64
     requires { (Roundable n rent (held n rents.now)) × (n ≤ length rents.now) }
     ensures { result ≡ missing_cents n rent (held n rents.now) }
 {
-    let mut floors = 0;
+    let mut floors = 0i64;
     for r in 0..n {
-        floors = sum(floors, floor_at(n, rents, r));
+        floors = floors.plus(floor_at(n, rents, r));
     }
-    difference(rent as i64, floors)
+    i64::from(rent).minus(floors)
 }
 
 // One cent more for the first rooms, as many as cents are missing.
@@ -61,7 +61,7 @@ fn in_cents(down: i64, r: usize, missing: i64) -> i64
     ensures { result ≡ down +ℤ extra missing r }
 {
     if (r as i64) < missing {
-        sum(down, 1)
+        down.plus(1)
     } else {
         down
     }

@@ -12,7 +12,7 @@ ghost use Rattle.rents.specs.Answer.{Measured, Fair, bits, held, gains_of, Rents
 
 use rooms::Group;
 use rooms::group::MOST_PEOPLE;
-use whole::{bits_of, difference, product, sum};
+use whole::{Whole, Word};
 
 // The joint worth; n × the least gain; n × the gain of each person, 0 past the n of them.
 #[derive(Clone, Copy)]
@@ -63,9 +63,9 @@ fn joint_worth(group: &Group, n: usize, rooms: &[u32]) -> i64
     requires housed { Housed (house group.now) rooms.now }
     ensures { result ≡ joint_of (house group.now) rooms.now }
 {
-    let mut worths = 0;
+    let mut worths = 0i64;
     for i in 0..n {
-        worths = sum(worths, group.worth(i, rooms[i] as usize) as i64);
+        worths = worths.plus(i64::from(group.worth(i, rooms[i] as usize)));
     }
     worths
 }
@@ -75,9 +75,9 @@ fn all_lengths(n: usize, d: [u64; MOST_PEOPLE]) -> i64
     requires { (n ≤ most_people) × (((i : ℕ) → slice_index d i ≤ most_worth)) }
     ensures { result ≡ total (λ i. number (signed d) i) n }
 {
-    let mut lengths = 0;
+    let mut lengths = 0i64;
     for i in 0..n {
-        lengths = sum(lengths, d[i] as i64);
+        lengths = lengths.plus(d[i] as i64);
     }
     lengths
 }
@@ -88,7 +88,9 @@ fn left_over(group: &Group, n: usize, d: [u64; MOST_PEOPLE], joint: i64) -> i64
     requires small { (((i : ℕ) → slice_index d i ≤ most_worth)) × (Within (2 ^ 60) joint) }
     ensures { result ≡ (joint -ℤ pos (house group.now).rent) -ℤ total (λ i. number (signed d) i) n }
 {
-    difference(difference(joint, group.rent() as i64), all_lengths(n, d))
+    joint
+        .minus(i64::from(group.rent()))
+        .minus(all_lengths(n, d))
 }
 
 // What a person pays, n times: the worth of their room less the length of their longest row, less an even part of what is spare.
@@ -96,10 +98,10 @@ fn due(worth: u32, row: u64, n: usize, spare: i64) -> i64
     requires { (worth ≤ most_worth) × ((row ≤ most_worth) × ((n ≤ most_people) × (Within (2 ^ 60) spare))) }
     ensures { result ≡ (pos worth -ℤ pos row) *ℤ pos n -ℤ spare }
 {
-    difference(
-        product(difference(worth as i64, row as i64), n as u32),
-        spare,
-    )
+    i64::from(worth)
+        .minus(row as i64)
+        .times(n as u32)
+        .minus(spare)
 }
 
 // What a person gains, n times: the length of their longest row, and an even part of what is spare.
@@ -107,7 +109,7 @@ fn gain(row: u64, n: usize, spare: i64) -> i64
     requires { (row ≤ most_worth) × ((n ≤ most_people) × (Within (2 ^ 60) spare)) }
     ensures { result ≡ pos row *ℤ pos n +ℤ spare }
 {
-    sum(product(row as i64, n as u32), spare)
+    (row as i64).times(n as u32).plus(spare)
 }
 
 // What each person pays, written at their room.
@@ -126,7 +128,7 @@ fn write_rents(
 {
     for i in 0..n {
         let r = rooms[i] as usize;
-        rents[r] = bits_of(due(group.worth(i, r), d[i], n, spare));
+        rents[r] = due(group.worth(i, r), d[i], n, spare).bits();
     }
 }
 

@@ -1,6 +1,6 @@
 -- Eight bytes at a place, and the number that they are: nothing is lost either way.
 use Rattle.std.proofs.Common.{◌≡◌, ℕ, ◌+◌, ◌-◌, ◌*◌, ◌/◌, ◌%◌, ◌^◌, ◌<◌, ◌≤◌, List, [], ◌∷◌, ◌++◌, length, get_or, take, drop, ℤ, pos, negsuc, sym, refl, ap, ◌∙◌, inl, inr, append_assoc, arith, length-append, length-drop, take-append-drop, length-take, w64, SFits, to_z, of_z}
-use Rattle.std.proofs.lemmas.List.{take_at, drop_at, take-append-le, drop-append-le, length-take-le, get_or-take, get_or_append_left, get_or-append_right, get_or-drop}
+use Rattle.std.proofs.lemmas.List.{take_at, take-take, drop_at, take-append-le, drop-append-le, length-take-le, get_or-take, get_or_append_left, get_or-append_right, get_or-drop}
 use Rattle.std.proofs.lemmas.Slice.{drop-append-drop}
 use Rattle.std.proofs.lemmas.Int.{ints, to_z-of_z, of_z-to_z}
 use Rattle.rooms.specs.Bytes.{low_bytes, from_bytes}
@@ -110,6 +110,13 @@ number_is s at =
       from_more 1 s (at + 6) (at + 7) (omega arith),
       from_more 0 s (at + 7) (at + 8) (omega arith),
     )
+
+-- So of a list that is those eight bytes.
+pub number_of :
+    (s : List ℕ) (at : ℕ) (e : List ℕ) → e ≡ eight_at s at → get_or e 0 0 + get_or e 1 0 * 256 + get_or e 2 0 * 65536 + get_or e 3 0 * 16777216
+    + get_or e 4 0 * 4294967296 + get_or e 5 0 * 1099511627776 + get_or e 6 0 * 281474976710656 + get_or e 7 0 * 72057594037927936 ≡ number_at s at
+unfolding number_at
+number_of s at e h = sym (number_is e 0) ∙ ap from_bytes (rw h (take-take 8 8 (drop at s) (omega arith)))
 
 pub bytes_are :
     (x : ℕ) → bytes_of x ≡ x % 256 ∷ x / 256 % 256 ∷ x / 65536 % 256 ∷ x / 16777216 % 256 ∷ x / 4294967296 % 256 ∷ x / 1099511627776 % 256 ∷

@@ -1,8 +1,8 @@
 -- Quotient and remainder toward lower numbers: they are what their names say, and no others are.
-use Rattle.std.proofs.Common.{◌≡◌, ℕ, ◌/◌, ◌<◌, ℤ, pos, negsuc, ◌+ℤ◌, ◌*ℤ◌, nat_abs, ◌≤ℤ◌, ◌<ℤ◌, sym, refl, ap, suc-mul, div-le_self, arith}
+use Rattle.std.proofs.Common.{◌≡◌, ℕ, ◌/◌, ◌<◌, ℤ, pos, negsuc, ◌+ℤ◌, ◌*ℤ◌, nat_abs, ◌≤ℤ◌, ◌<ℤ◌, sym, refl, ap, ◌∙◌, suc-mul, div-le_self, arith, SFits, to_z, of_z}
 use Rattle.std.proofs.lemmas.Nat.{div-add-mod', mod_below}
-use Rattle.std.proofs.lemmas.Int.{ints, by_lt_z}
-use Rattle.std.specs.Int.{int_div_euclid, int_rem_euclid}
+use Rattle.std.proofs.lemmas.Int.{ints, by_lt_z, to_z-of_z}
+use Rattle.std.specs.Int.{Width, int_div_euclid, int_rem_euclid}
 use Rattle.rooms.proofs.Product.{times_add, times_le}
 use Rattle.whole.specs.Bounds.{Within}
 use Rattle.whole.specs.Floor.{floor, rest, FloorOf, Floors, OnlyFloor, Rests, OnlyRest, Moved}
@@ -59,6 +59,14 @@ pub euclid_rest : (a : ℤ) (n : ℕ) → nat_abs (int_rem_euclid a (pos n)) ≡
 unfolding rest
 euclid_rest (pos a) n = refl
 euclid_rest (negsuc a) n = refl
+
+-- What it and its remainder leave as bits and back, of numbers that fit.
+module _ (w : Width) (a m r : ℤ) (n : ℕ) (fa : SFits w a) (fm : SFits w m) (fr : SFits w r) (e : m ≡ pos n) where
+  pub divided : r ≡ int_div_euclid (to_z w (of_z w a)) (to_z w (of_z w m)) → to_z w (of_z w r) ≡ floor a n
+  divided d = to_z-of_z w r fr ∙ (rw (to_z-of_z w a fa, to_z-of_z w m fm, e) at d) ∙ euclid_floor a n
+
+  pub remaining : r ≡ int_rem_euclid (to_z w (of_z w a)) (to_z w (of_z w m)) → nat_abs (to_z w (of_z w r)) ≡ rest a n
+  remaining d = ap nat_abs (to_z-of_z w r fr ∙ (rw (to_z-of_z w a fa, to_z-of_z w m fm, e) at d)) ∙ euclid_rest a n
 
 -- A quotient is no further from nothing.
 pub floor_within : (b : ℕ) (a : ℤ) (n : ℕ) → Within b a → Within b (floor a n)

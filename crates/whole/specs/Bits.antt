@@ -21,3 +21,9 @@ SignedBack = (x : ℤ) → Signed64 x → to_z w64 (of_z w64 x) ≡ x
 -- So are bits that are turned to a number and back, and the number is one that an i64 can hold.
 abbrev pub BitsBack : Type 0
 BitsBack = (b : ℕ) → b < 2 ^ 64 → Signed64 (to_z w64 b) × (of_z w64 (to_z w64 b) ≡ b)
+
+-- Numbers of some type as bits lose nothing: the bits of each number that fits are 64, and either way is undone by the other.
+pub record WordLaws {N : Type 0} (bits : N → ℕ) (of_bits : ℕ → N) (fits : N → Type 0) : Type 0 where
+  pub small : (x : N) → fits x → bits x < 2 ^ 64
+  pub back : (x : N) → fits x → of_bits (bits x) ≡ x
+  pub again : (b : ℕ) → b < 2 ^ 64 → fits (of_bits b) × (bits (of_bits b) ≡ b)

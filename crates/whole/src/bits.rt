@@ -1,19 +1,61 @@
-// i64 as u64 and back, in two's complement: nothing is lost either way.
-ghost use Rattle.std.specs.Prelude.{◌≡◌};
-ghost use Rattle.std.specs.Int.{w64};
-ghost use Rattle.std.proofs.Common.{of_z, to_z};
-ghost use Rattle.whole.specs.Bits.{BitsAre, SignedBack, BitsBack};
+// Numbers of eight bytes as u64 and back, i64 in two's complement: nothing is lost either way.
+ghost use Rattle.std.specs.Prelude.{◌≡◌, ℕ, ◌^◌, ◌<◌};
+ghost use Rattle.std.specs.Int.{w64, cast_signed, cast_unsigned};
+ghost use Rattle.whole.specs.Bits.{Signed64, BitsAre, SignedBack, BitsBack, WordLaws};
+ghost use Rattle.whole.specs.Words.{signed_word, unsigned_word};
 
-pub fn bits_of(x: i64) -> u64
-    ensures { result ≡ of_z w64 x }
-{
-    x.cast_unsigned()
+pub trait Word: Copy {
+    // A number's bits, the number that has some bits, and which numbers there are.
+    ghost bits: { Self → ℕ };
+
+    ghost of_bits: { ℕ → Self };
+
+    ghost fits: { Self → Type 0 };
+
+    fn bits(self) -> u64
+        ensures { result ≡ bits self };
+
+    fn of_bits(b: u64) -> Self
+        ensures { result ≡ of_bits b };
+
+    // Nothing is lost either way.
+    ghost laws: { WordLaws bits of_bits fits };
 }
 
-pub fn signed_of(x: u64) -> i64
-    ensures { result ≡ to_z w64 x }
-{
-    x.cast_signed()
+impl Word for u64 {
+    ghost bits = { λ x. x };
+
+    ghost of_bits = { λ b. b };
+
+    ghost fits = { λ x. x < 2 ^ 64 };
+
+    fn bits(self) -> u64 {
+        self
+    }
+
+    fn of_bits(b: u64) -> u64 {
+        b
+    }
+
+    ghost laws = { unsigned_word };
+}
+
+impl Word for i64 {
+    ghost bits = { cast_unsigned w64 };
+
+    ghost of_bits = { cast_signed w64 };
+
+    ghost fits = { Signed64 };
+
+    fn bits(self) -> u64 {
+        self.cast_unsigned()
+    }
+
+    fn of_bits(b: u64) -> i64 {
+        b.cast_signed()
+    }
+
+    ghost laws = { signed_word };
 }
 
 // What the bits of a number are, and that either way is undone by the other.

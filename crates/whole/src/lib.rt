@@ -1,5 +1,5 @@
-// Whole numbers with bounds: i64 as u64 and as eight bytes, quotients toward lower numbers, and sums, differences and
-// products that are exact. Nothing here knows of houses.
+// Whole numbers with bounds: numbers of eight bytes and their bits, and sums, differences, products and quotients of numbers
+// of 64 and 128 bits that are exact. Nothing here knows of houses.
 #![tactic(auto)]
 
 pub mod bits;
@@ -8,11 +8,10 @@ pub mod exact;
 pub mod floor;
 pub mod wide;
 
-pub use bits::{bits_of, signed_of};
-pub use bytes::{read_i64, read_u64, write_i64, write_u64};
-pub use exact::{difference, product, sum};
-pub use floor::{floor_div, floor_mod};
-pub use wide::{wide_add, wide_floor, wide_of, wide_sub, wide_sum, wide_times};
+pub use bits::Word;
+pub use bytes::{read, write};
+pub use exact::Whole;
+pub use wide::wide_sum;
 
 #[cfg(test)]
 mod tests {
@@ -31,12 +30,12 @@ mod tests {
     #[test]
     fn bits_and_bytes(rt: HostRuntime) {
         for (x, b, low, high) in BITS {
-            assert_eq!(rt; bits_of(x), b);
-            assert_eq!(rt; signed_of(b), x);
+            assert_eq!(rt; x.bits(), b);
+            assert_eq!(rt; i64::of_bits(b), x);
             let mut bytes = [7; 12];
-            write_i64(&mut bytes, 2, x);
-            assert_eq!(rt; read_i64(&bytes, 2), x);
-            assert_eq!(rt; read_u64(&bytes, 2), b);
+            write(&mut bytes, 2, x);
+            assert_eq!(rt; read::<i64>(&bytes, 2), x);
+            assert_eq!(rt; read::<u64>(&bytes, 2), b);
             assert_eq!(rt;
                 [bytes[1], bytes[2], bytes[9], bytes[10]],
                 [7, low, high, 7]
@@ -60,20 +59,20 @@ mod tests {
     #[test]
     fn floors(rt: HostRuntime) {
         for (a, q, m) in FLOORS {
-            assert_eq!(rt; floor_div(a, 24), q);
-            assert_eq!(rt; floor_mod(a, 24), m);
+            assert_eq!(rt; a.floor_div(24), q);
+            assert_eq!(rt; a.floor_mod(24), m);
         }
     }
 
     #[test]
     fn exact(rt: HostRuntime) {
-        assert_eq!(rt; difference(sum(-5, 3), 9), -11);
-        assert_eq!(rt; product(-1_000_000, 24), -24_000_000);
+        assert_eq!(rt; (-5i64).plus(3).minus(9), -11);
+        assert_eq!(rt; (-1_000_000i64).times(24), -24_000_000);
         let least = wide_sum(-0x8000_0000_0000_0000, -0x8000_0000_0000_0000);
         assert_eq!(rt; least, -0x1_0000_0000_0000_0000);
-        assert_eq!(rt; wide_sub(least, wide_of(1)), -0x1_0000_0000_0000_0001);
-        assert_eq!(rt; wide_times(least, 24), -0x18_0000_0000_0000_0000);
-        assert_eq!(rt; wide_floor(least, 24), -768_614_336_404_564_651);
-        assert_eq!(rt; wide_add(least, least), -0x2_0000_0000_0000_0000);
+        assert_eq!(rt; least.minus(i128::from(1i64)), -0x1_0000_0000_0000_0001);
+        assert_eq!(rt; least.times(24), -0x18_0000_0000_0000_0000);
+        assert_eq!(rt; least.floor_div(24), -768_614_336_404_564_651);
+        assert_eq!(rt; least.plus(least), -0x2_0000_0000_0000_0000);
     }
 }

@@ -15,8 +15,8 @@ loop-r-init c = omega (arith, ints)
 pub floor_at-requires : goal.floor_at-requires
 floor_at-requires c = let e = c.requires.1 in (c.requires.0.someone, (c.requires.0.few, omega arith))
 
-pub sum-floors-requires : goal.sum-floors-requires
-sum-floors-requires c =
+pub plus-floors-requires : goal.plus-floors-requires
+plus-floors-requires c =
     let n = c.args.n in
     let ps = held n c.args.rents.now in
     let w = floors_small n c.args.rent ps c.requires.0 c.loop-r.r (omega arith) in
@@ -30,14 +30,14 @@ loop-r-preserved c =
     let n = c.args.n in
     let ps = held n c.args.rents.now in
     let f : c.floor_at.result ≡ floor_at n ps c.loop-r.r = c.floor_at.ensures ∙ ap (λ (x : ℤ). floor x n) (sym (held_at n c.args.rents.now c.loop-r.r c.loop-r-test.true c.requires.1)) in
-    let a = c.sum-floors.ensures.value in
-    let b = c.sum-floors.ensures.within in
+    let a = c.plus-floors.ensures.value in
+    let b = c.plus-floors.ensures.within in
     let e : c.loop-r.floors ≡ sum (λ r. floor_at n ps r) c.loop-r.r = sym c.loop-r.floors-is ∙ c.loop-r.invariant in
     let g : SFits w64 c.floor_at.result = record { sfits = c.floor_at.type_inv } in
-    sum_step (λ r. floor_at n ps r) c.loop-r.r c.loop-r.floors c.floor_at.result (to_z w64 (of_z w64 c.sum-floors.result)) e f (omega (arith, ints))
+    sum_step (λ r. floor_at n ps r) c.loop-r.r c.loop-r.floors c.floor_at.result (to_z w64 (of_z w64 c.plus-floors.result)) e f (omega (arith, ints))
 
-pub difference-requires : goal.difference-requires
-difference-requires c =
+pub minus-requires : goal.minus-requires
+minus-requires c =
     let n = c.args.n in
     let w = floors_small n c.args.rent (held n c.args.rents.now) c.requires.0 c.loop-r.r (omega arith) in
     let e = c.loop-r.invariant in
@@ -50,6 +50,6 @@ returns c =
     let ps = held n c.args.rents.now in
     let i : c.loop-r.r ≡ n = omega arith in
     let e : c.loop-r.floors ≡ sum (λ r. floor_at n ps r) n = sym c.loop-r.floors-is ∙ c.loop-r.invariant ∙ ap (λ k. sum (λ r. floor_at n ps r) k) i in
-    let v = c.difference.ensures.value in
-    let w = c.difference.ensures.within in
+    let v = c.minus.ensures.value in
+    let w = c.minus.ensures.within in
     omega (arith, ints)

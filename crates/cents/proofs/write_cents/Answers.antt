@@ -53,9 +53,9 @@ loop-r-preserved c =
     c.in_cents.ensures
     ∙ ap (λ (a : ℤ). a +ℤ extra (to_z w64 (of_z w64 c.missing_cents-missing.result)) r) f
     ∙ ap (λ (a : ℤ). floor_at n ps r +ℤ extra a r) z in
-    let x : c.bits_of.result ≡ get_or s r 0 =
-    c.bits_of.ensures ∙ ap (of_z w64) (to_z-of_z w64 c.in_cents.result (record { sfits = c.in_cents.type_inv }) ∙ v) ∙ sym (bits_at n c.args.rent ps r l) in
-    ap (λ ys. set ys (n + r) c.bits_of.result) c.loop-r.invariant
+    let x : c.bits.result ≡ get_or s r 0 =
+    c.bits.ensures ∙ ap (of_z w64) (to_z-of_z w64 c.in_cents.result (record { sfits = c.in_cents.type_inv }) ∙ v) ∙ sym (bits_at n c.args.rent ps r l) in
+    ap (λ ys. set ys (n + r) c.bits.result) c.loop-r.invariant
     ∙ ap (set (paste xs n s r) (n + r)) x
     ∙ paste_more xs n s r 0 (omega arith) (omega arith)
 

@@ -9,8 +9,8 @@ pub loop-i-init : goal.loop-i-init
 unfolding sum
 loop-i-init c = omega (arith, ints)
 
-pub sum-lengths-requires : goal.sum-lengths-requires
-sum-lengths-requires c =
+pub plus-lengths-requires : goal.plus-lengths-requires
+plus-lengths-requires c =
     let w = lengths_small c.args.d c.requires.1 c.loop-i.i (omega arith) in
     let e = c.loop-i.invariant in
     let a = c.requires.1 c.loop-i.i in
@@ -18,10 +18,10 @@ sum-lengths-requires c =
 
 pub loop-i-preserved : goal.loop-i-preserved
 loop-i-preserved c =
-    let a = c.sum-lengths.ensures.value in
-    let b = c.sum-lengths.ensures.within in
+    let a = c.plus-lengths.ensures.value in
+    let b = c.plus-lengths.ensures.within in
     let f = c.loop-i-test.element_fits in
     let g = c.requires.1 c.loop-i.i in
     let e : c.loop-i.lengths ≡ sum (λ i. number (signed c.args.d) i) c.loop-i.i = sym c.loop-i.lengths-is ∙ c.loop-i.invariant in
-    sum_step (λ i. number (signed c.args.d) i) c.loop-i.i c.loop-i.lengths (pos (get_or c.args.d c.loop-i.i 0)) (to_z w64 (of_z w64 c.sum-lengths.result)) e
+    sum_step (λ i. number (signed c.args.d) i) c.loop-i.i c.loop-i.lengths (pos (get_or c.args.d c.loop-i.i 0)) (to_z w64 (of_z w64 c.plus-lengths.result)) e
     (sym (number_signed c.args.d c.loop-i.i)) (omega (arith, ints))

@@ -36,7 +36,7 @@ loop-i-preserved c =
     let e : c.due.result ≡ due h room d i =
     c.due.ensures ∙ due_is h room c.args.d i c.args.n c.worth.result (to_z w64 (of_z w64 c.args.spare)) c.worth.ensures c.requires.people.0 z in
     paid_more h room d c.args.rents.now c.requires.measured.0.housed (let e = c.requires.people.0 in let l = c.requires.enough in omega arith)
-    i c.loop-i.rents c.bits_of.result (let e = c.requires.people.0 in omega arith) (c.bits_of.ensures ∙ ap (of_z w64) (to_z-of_z w64 c.due.result f ∙ e)) c.loop-i.invariant
+    i c.loop-i.rents c.bits.result (let e = c.requires.people.0 in omega arith) (c.bits.ensures ∙ ap (of_z w64) (to_z-of_z w64 c.due.result f ∙ e)) c.loop-i.invariant
 
 pub returns : goal.returns
 returns c =

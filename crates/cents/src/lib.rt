@@ -2,9 +2,7 @@
 // numbers, so that they add up to the whole rent.
 #![tactic(auto)]
 
-ghost use Rattle.std.specs.Prelude.{◌≡◌, ◌+◌, ◌^◌, ◌<◌, ◌≤◌, ◌++◌, length, take, drop, ◌+ℤ◌, slice_index};
-ghost use Rattle.std.specs.Int.{w64};
-ghost use Rattle.std.proofs.Common.{to_z};
+ghost use Rattle.std.specs.Prelude.{◌≡◌, ◌+◌, ◌^◌, ◌<◌, ◌≤◌, ◌++◌, length, take, drop, ◌+ℤ◌};
 ghost use Rattle.rooms.specs.Format.{most_people};
 ghost use Rattle.whole.specs.Bounds.{Within};
 ghost use Rattle.whole.specs.Floor.{floor};
@@ -22,9 +20,10 @@ pub fn write_cents(n: usize, rent: u32, rents: &mut [u64])
     ensures held { held n (drop n rents.new) ≡ cents_of n rent (held n rents.old) }
     ensures rounded { Rounded n rent (held n rents.old) (held n (drop n rents.new)) }
 {
-    let missing = missing_cents(n, rent, rents);
-    for r in 0..n {
-        rents[n + r] = in_cents(floor_at(n, rents, r), r, missing).bits();
+    let (fractions, cents) = rents.split_at_mut(n);
+    let missing = missing_cents(rent, fractions);
+    for (r, cent) in cents[..n].iter_mut().enumerate() {
+        *cent = in_cents(floor_of(fractions[r], n), r, missing).bits();
     }
 }
 
@@ -35,22 +34,23 @@ pub fn cents_stand()
     ensures content { NearContent }
 {}
 
-// Room r's rent, rounded toward lower numbers.
-fn floor_at(n: usize, rents: &[u64], r: usize) -> i64
-    requires { (0 < n) × ((n ≤ most_people) × (r < length rents.now)) }
-    ensures { result ≡ floor (to_z w64 (slice_index rents.now r)) n }
+// A rent over n, rounded toward lower numbers.
+fn floor_of(rent: u64, n: usize) -> i64
+    requires { (0 < n) × (n ≤ most_people) }
+    ensures { result ≡ floor (⟦<i64 as Word>⟧.of_bits rent) n }
 {
-    i64::of_bits(rents[r]).floor_div(n as u32)
+    i64::of_bits(rent).floor_div(n as u32)
 }
 
 // How many cents are missing when every room pays its rent rounded toward lower numbers.
-fn missing_cents(n: usize, rent: u32, rents: &[u64]) -> i64
-    requires { (Roundable n rent (held n rents.now)) × (n ≤ length rents.now) }
-    ensures { result ≡ missing_cents n rent (held n rents.now) }
+fn missing_cents(rent: u32, rents: &[u64]) -> i64
+    requires { Roundable (length rents.now) rent (held (length rents.now) rents.now) }
+    ensures { result ≡ missing_cents (length rents.now) rent (held (length rents.now) rents.now) }
 {
+    let n = rents.len();
     let mut floors = 0i64;
-    for r in 0..n {
-        floors = floors.plus(floor_at(n, rents, r));
+    for fraction in rents {
+        floors = floors.plus(floor_of(*fraction, n));
     }
     i64::from(rent).minus(floors)
 }

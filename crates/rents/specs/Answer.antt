@@ -1,8 +1,7 @@
 -- The rents and gains as numbers of 64 bits: what they are computed from, which they are, and how large. Assumes nothing: these are definitions and
 -- statements.
 use Rattle.std.specs.Prelude.{◌≡◌, ℕ, ◌+◌, ◌-◌, ◌*◌, ◌<◌, ◌≤◌, List, ◌++◌, map, take, replicate, ℤ, pos, ◌*ℤ◌, ◌≤ℤ◌, slice_index}
-use Rattle.std.specs.Int.{w64}
-use Rattle.std.proofs.Common.{of_z, to_z}
+use Rattle.std.specs.Int.{w64, cast_signed, cast_unsigned}
 use Rattle.std.specs.List.{range_with_len}
 use Rattle.rooms.specs.House.{House, Housed, joint, own_gain, rent_of, sum, total, worth_at}
 use Rattle.rooms.specs.Format.{Allowed, most_people, most_rent, most_worth}
@@ -14,10 +13,10 @@ use Rattle.rents.specs.Rents.{Rents, due, rents_of, spare}
 
 -- Signed numbers as bits, and the first n numbers of such bits.
 abbrev pub bits : List ℤ → List ℕ
-bits zs = map (of_z w64) zs
+bits zs = map (cast_unsigned w64) zs
 
 abbrev pub held : ℕ → List ℕ → List ℤ
-held n xs = map (to_z w64) (take n xs)
+held n xs = map (cast_signed w64) (take n xs)
 
 -- A best sharing and the lengths of its longest rows, none of them above the highest worth.
 pub record Measured (h : House) (room d : List ℕ) : Type 0 where

@@ -3,6 +3,7 @@
 #![tactic(auto)]
 
 pub mod fairest;
+mod sharing;
 pub mod theory;
 
 pub use fairest::{Outcome, fairest_rents};

@@ -1,7 +1,6 @@
 -- The eight bytes of a number, the lowest first, at a place among other bytes, and the number of eight bytes. Assumes nothing: these are definitions.
 use Rattle.std.specs.Prelude.{◌≡◌, ℕ, ◌+◌, ◌^◌, ◌<◌, ◌≤◌, ◌⊎◌, List, ◌++◌, length, take, drop, ℤ, slice_index}
-use Rattle.std.specs.Int.{w64}
-use Rattle.std.proofs.Common.{of_z, to_z}
+use Rattle.std.specs.Int.{w64, cast_signed, cast_unsigned}
 use Rattle.rooms.specs.Bytes.{low_bytes, from_bytes, Bytes}
 use Rattle.whole.specs.Bits.{Signed64}
 
@@ -46,5 +45,5 @@ BytesBack = (s : List ℕ) (at : ℕ) → at + 8 ≤ length s → Bytes s → by
 
 -- Both hold of signed numbers, by way of their bits.
 pub record SignedBytesBack : Type 0 where
-  pub read : (s : List ℕ) (at : ℕ) (x : ℤ) → at + 8 ≤ length s → Signed64 x → to_z w64 (number_at (put s at (of_z w64 x)) at) ≡ x
-  pub again : (s : List ℕ) (at : ℕ) → at + 8 ≤ length s → Bytes s → bytes_of (of_z w64 (to_z w64 (number_at s at))) ≡ eight_at s at
+  pub read : (s : List ℕ) (at : ℕ) (x : ℤ) → at + 8 ≤ length s → Signed64 x → cast_signed w64 (number_at (put s at (cast_unsigned w64 x)) at) ≡ x
+  pub again : (s : List ℕ) (at : ℕ) → at + 8 ≤ length s → Bytes s → bytes_of (cast_unsigned w64 (cast_signed w64 (number_at s at))) ≡ eight_at s at

@@ -4,6 +4,7 @@ ghost use Rattle.std.specs.Prelude.{◌≡◌, ℕ, ◌+◌, ◌^◌, ◌<◌, �
 ghost use Rattle.whole.specs.Bounds.{Within, Wider, SumWithin, DifferenceWithin, ProductWithin, TotalWithin};
 ghost use Rattle.whole.specs.Floor.{floor, rest, FloorOf};
 
+// Methods, each a line for a type: functions over Add, Sub and Mul would need two laws of each operator instead.
 pub trait Whole: Copy {
     // The number that a value is.
     ghost value: { Self → ℤ };

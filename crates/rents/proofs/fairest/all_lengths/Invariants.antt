@@ -1,8 +1,0 @@
-use Rattle.std.proofs.Common.{◌≡◌}
-use Rattle.rooms.specs.House.{sum}
-use Rattle.rooms.specs.Rows.{number, signed}
-use Rattle.rents.proofs.fairest.all_lengths.Given as goal
-
--- The lengths of the people before this one have been added up.
-abbrev pub invariant-loop-i : goal.invariant-loop-i
-invariant-loop-i l = l.lengths ≡ sum (λ i. number (signed l.d) i) l.i

@@ -23,7 +23,7 @@ pub fn write_cents(n: usize, rent: u32, rents: &mut [u64])
     let (fractions, cents) = rents.split_at_mut(n);
     let missing = missing_cents(rent, fractions);
     for (r, cent) in cents[..n].iter_mut().enumerate() {
-        *cent = in_cents(floor_of(fractions[r], n), r, missing).bits();
+        *cent = in_cents(floor_of(fractions[r], n), r, missing).to_bits();
     }
 }
 
@@ -39,7 +39,7 @@ fn floor_of(rent: u64, n: usize) -> i64
     requires { (0 < n) × (n ≤ most_people) }
     ensures { result ≡ floor (⟦<i64 as Word>⟧.of_bits rent) n }
 {
-    i64::of_bits(rent).floor_div(n as u32)
+    i64::from_bits(rent).floor_div(n as u32)
 }
 
 // How many cents are missing when every room pays its rent rounded toward lower numbers.

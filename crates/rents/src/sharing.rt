@@ -74,7 +74,7 @@ impl<'g, 'r> Sharing<'g, 'r> {
         ensures { rents.new ≡ bits (rents_of (house self.now.group) self.now.rooms.now (signed self.now.d)) ++ drop (house self.now.group).n rents.old }
     {
         for (i, room) in self.rooms[..self.group.count()].iter().enumerate() {
-            rents[*room as usize] = self.due(i).bits();
+            rents[*room as usize] = self.due(i).to_bits();
         }
     }
 

@@ -12,10 +12,10 @@ pub trait Word: Copy {
 
     ghost fits: { Self → Type 0 };
 
-    fn bits(self) -> u64
+    fn to_bits(self) -> u64
         ensures { result ≡ bits self };
 
-    fn of_bits(b: u64) -> Self
+    fn from_bits(b: u64) -> Self
         ensures { result ≡ of_bits b };
 
     // Nothing is lost either way.
@@ -29,11 +29,11 @@ impl Word for u64 {
 
     ghost fits = { λ x. x < 2 ^ 64 };
 
-    fn bits(self) -> u64 {
+    fn to_bits(self) -> u64 {
         self
     }
 
-    fn of_bits(b: u64) -> u64 {
+    fn from_bits(b: u64) -> u64 {
         b
     }
 
@@ -47,11 +47,11 @@ impl Word for i64 {
 
     ghost fits = { Signed64 };
 
-    fn bits(self) -> u64 {
+    fn to_bits(self) -> u64 {
         self.cast_unsigned()
     }
 
-    fn of_bits(b: u64) -> i64 {
+    fn from_bits(b: u64) -> i64 {
         b.cast_signed()
     }
 

@@ -9,7 +9,7 @@ pub fn write<T: Word>(bytes: &mut [u8], at: usize, x: T)
     ensures written { bytes.new ≡ put bytes.old at (T.bits x) }
     ensures back { T.fits x → T.of_bits (number_at bytes.new at) ≡ x }
 {
-    bytes[at..at + 8].copy_from_slice(&x.bits().to_le_bytes());
+    bytes[at..at + 8].copy_from_slice(&x.to_bits().to_le_bytes());
 }
 
 pub fn read<T: Word>(bytes: &[u8], at: usize) -> T
@@ -18,7 +18,7 @@ pub fn read<T: Word>(bytes: &[u8], at: usize) -> T
 {
     let mut eight = [0; 8];
     eight.copy_from_slice(&bytes[at..at + 8]);
-    T::of_bits(u64::from_le_bytes(eight))
+    T::from_bits(u64::from_le_bytes(eight))
 }
 
 // Bytes lose nothing: what is written is read back, a write elsewhere changes nothing, and bytes that are read are those

@@ -30,8 +30,8 @@ mod tests {
     #[test]
     fn bits_and_bytes(rt: HostRuntime) {
         for (x, b, low, high) in BITS {
-            assert_eq!(rt; x.bits(), b);
-            assert_eq!(rt; i64::of_bits(b), x);
+            assert_eq!(rt; x.to_bits(), b);
+            assert_eq!(rt; i64::from_bits(b), x);
             let mut bytes = [7; 12];
             write(&mut bytes, 2, x);
             assert_eq!(rt; read::<i64>(&bytes, 2), x);

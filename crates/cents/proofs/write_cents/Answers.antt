@@ -42,8 +42,8 @@ loop-r-preserved c =
     ∙ front_missing n xs front (omega arith) halves.front c.args.rent in
     let v : c.in_cents.result ≡ floor_at n ps r +ℤ extra (missing_cents n c.args.rent ps) r =
     c.in_cents.ensures ∙ ap₂ (λ (a b : ℤ). a +ℤ extra b r) f z in
-    let x : c.bits.result ≡ get_or s r 0 =
-    c.bits.ensures ∙ ap (of_z w64) (to_z-of_z w64 c.in_cents.result (record { sfits = c.in_cents.type_inv }) ∙ v) ∙ sym (bits_at n c.args.rent ps r l) in
+    let x : c.to_bits.result ≡ get_or s r 0 =
+    c.to_bits.ensures ∙ ap (of_z w64) (to_z-of_z w64 c.in_cents.result (record { sfits = c.in_cents.type_inv }) ∙ v) ∙ sym (bits_at n c.args.rent ps r l) in
     below_more _ _ (λ k m. get_or-set_other c.loop-r.cent-items r k _ 0 (λ q. omega arith) ∙ c.loop-r.invariant k m)
     (get_or-set_same c.loop-r.cent-items r _ 0 here ∙ x)
 

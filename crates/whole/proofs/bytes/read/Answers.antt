@@ -7,4 +7,4 @@ returns g c =
     let at = c.args.at in
     let e : at + 8 - at ≡ 8 = omega arith in
     let n = number_of c.args.bytes.now at c.copy_from_slice.new.self (c.copy_from_slice.ensures.after ∙ ap (λ k. take k (drop at c.args.bytes.now)) e) in
-    c.of_bits.ensures ∙ ap g.T.Word.of_bits (c.from_le_bytes.ensures ∙ n)
+    c.from_bits.ensures ∙ ap g.T.Word.of_bits (c.from_le_bytes.ensures ∙ n)

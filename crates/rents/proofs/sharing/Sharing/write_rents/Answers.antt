@@ -17,9 +17,9 @@ loop-i-preserved c =
     let people = c.count.ensures.people in
     let long = length-take-le n room (omega (arith, s.housed.all)) in
     let here : i < n = omega (arith, c.loop-i-test.true) in
-    let e = c.bits.ensures ∙ ap (of_z w64) (to_z-of_z w64 c.due.result (record { sfits = c.due.type_inv }) ∙ c.due.ensures) in
-    subst (λ r. Paid h room d c.args.rents.now (i + 1) (set c.loop-i.rents r c.bits.result)) (sym (get_or-take n room i 0 here))
-    (paid_more h room d c.args.rents.now s.housed c.requires i c.loop-i.rents c.bits.result (omega arith) e c.loop-i.invariant)
+    let e = c.to_bits.ensures ∙ ap (of_z w64) (to_z-of_z w64 c.due.result (record { sfits = c.due.type_inv }) ∙ c.due.ensures) in
+    subst (λ r. Paid h room d c.args.rents.now (i + 1) (set c.loop-i.rents r c.to_bits.result)) (sym (get_or-take n room i 0 here))
+    (paid_more h room d c.args.rents.now s.housed c.requires i c.loop-i.rents c.to_bits.result (omega arith) e c.loop-i.invariant)
 
 pub returns : goal.returns
 returns c =

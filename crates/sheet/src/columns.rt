@@ -5,7 +5,6 @@ ghost use Rattle.sheet.specs.Format.{signed_at, column_of};
 
 use rooms::group::MOST_PEOPLE;
 use std::array;
-use whole::read_i64;
 
 // What stands in a column: a byte, or a signed number of eight.
 pub trait Entry: Copy + Drop {
@@ -46,7 +45,7 @@ impl Entry for i64 {
     ghost stands = { signed_at };
 
     fn read(sheet: &[u8], at: usize) -> i64 {
-        read_i64(sheet, at)
+        whole::read(sheet, at)
     }
 }
 

@@ -11,7 +11,7 @@ ghost use Rattle.sheet.specs.Statement.{claimed_by, house_in, sheet_in};
 
 use super::statement::{Sharing, Terms};
 use rooms::group::MOST_PEOPLE;
-use whole::{wide_add, wide_floor, wide_sub, wide_times};
+use whole::Whole;
 
 // One cent more for the first rooms, as many as cents are missing.
 fn cent_more(r: usize, missing: i128) -> i128
@@ -62,8 +62,8 @@ impl<'a> Terms<'a> {
     {
         let n = sharing.stated.group.count() as u32;
         let surplus = sharing.surplus();
-        let even = wide_floor(-surplus, n);
-        let missing = wide_sub(-surplus, wide_times(even, n));
+        let even = (-surplus).floor_div(n);
+        let missing = (-surplus).minus(even.times(n));
         Terms {
             sharing,
             surplus,
@@ -90,7 +90,7 @@ impl<'a> Terms<'a> {
     {
         let entries = self.sharing.stated.entries;
         let n = self.sharing.stated.group.count() as u32;
-        let due = wide_sub(wide_times(self.own_less(r), n), self.surplus);
+        let due = self.own_less(r).times(n).minus(self.surplus);
         i128::from(entries.rents[r]) != due
     }
 
@@ -100,8 +100,8 @@ impl<'a> Terms<'a> {
         ensures { result ≡ cents_fault (house_in self.now.sharing.stated) (sheet_in self.now.sharing.stated) r }
     {
         let entries = self.sharing.stated.entries;
-        let down = wide_add(self.own_less(r), self.even);
-        let cents = wide_add(down, cent_more(r, self.missing));
+        let down = self.own_less(r).plus(self.even);
+        let cents = down.plus(cent_more(r, self.missing));
         i128::from(entries.cents[r]) != cents
     }
 

@@ -4,7 +4,7 @@ ghost use Rattle.sheet.specs.Report.{joint_text, person_text, least_text, line_o
 
 use rooms::group::MOST_PEOPLE;
 use std::fmt;
-use whole::signed_of;
+use whole::Word;
 
 // The joint worth.
 #[derive(Clone, Copy)]
@@ -63,6 +63,6 @@ pub fn person_line(rooms: &[u32], rents: &[u64], n: usize, i: usize) -> Option<P
     Some(PersonLine {
         person: i,
         room,
-        pays: signed_of(pays),
+        pays: i64::from_bits(pays),
     })
 }

@@ -2,7 +2,7 @@
 use super::{check, share};
 use rooms::Refusal;
 use std::test::Fail;
-use whole::write_i64;
+use whole::write;
 
 // Worths 10 0 / 14 10 and rent 7.
 const GROUP: &[u8; 21] = b"\
@@ -53,7 +53,7 @@ const WORKED_SHEET: &[u8; 84] = b"\
 fn with_number(at: usize, x: i64) -> (u32, u128) {
     let mut sheet = *SHEET;
     if at <= 76 {
-        write_i64(&mut sheet, at, x);
+        write(&mut sheet, at, x);
     }
     fault(GROUP, &sheet)
 }

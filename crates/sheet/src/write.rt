@@ -9,7 +9,7 @@ ghost use Rattle.sheet.specs.Write.{handed, number_part, person_part, room_part}
 ghost use Rattle.sheet.specs.Roundtrip.{Long, ReadsBack, SameBytes, WritesBack};
 
 use rooms::group::MOST_PEOPLE;
-use whole::write_u64;
+use whole::write;
 
 // How long the sheet of n people is.
 pub fn sheet_len(n: usize) -> usize
@@ -57,7 +57,7 @@ fn write_persons(draft: &Draft, sheet: &mut [u8])
     for i in 0..draft.n {
         sheet[10 * i] = draft.rooms[i] as u8;
         sheet[10 * i + 1] = draft.before[i];
-        write_u64(sheet, 10 * i + 2, draft.d[i]);
+        write(sheet, 10 * i + 2, draft.d[i]);
     }
 }
 
@@ -68,8 +68,8 @@ fn write_rooms(n: usize, rents: &[u64], sheet: &mut [u8])
     ensures fits { (k : ℕ) → slice_index rents.now k < 2 ^ 64 }
 {
     for r in 0..n {
-        write_u64(sheet, 10 * n + 16 * r, rents[r]);
-        write_u64(sheet, 10 * n + 16 * r + 8, rents[n + r]);
+        write(sheet, 10 * n + 16 * r, rents[r]);
+        write(sheet, 10 * n + 16 * r + 8, rents[n + r]);
     }
 }
 
@@ -79,7 +79,7 @@ fn write_numbers(n: usize, numbers: [u64; MOST_PEOPLE], at: usize, sheet: &mut [
     ensures { sheet.new ≡ paste sheet.old at (flat_map (number_part numbers) (range_with_len 0 n)) (8 * n) }
 {
     for i in 0..n {
-        write_u64(sheet, at + 8 * i, numbers[i]);
+        write(sheet, at + 8 * i, numbers[i]);
     }
 }
 
@@ -95,7 +95,7 @@ pub fn sheet_stands()
 mod tests {
     use super::super::columns::*;
     use super::*;
-    use whole::bits_of;
+    use whole::Word;
 
     // Worths 80 70 / 80 20 and rent 100: rooms 1 and 0, nobody before, twice the rents 110 and 90, cents 55 and 45, numbers
     // 70 and 70 for the people, 10 and 0 for the rooms; then two bytes that lie past the sheet.
@@ -130,7 +130,7 @@ mod tests {
     #[test]
     fn below_nothing(rt: HostRuntime) {
         let mut sheet = [0; 42];
-        let rents = [bits_of(-4), bits_of(-0x8000_0000_0000_0000)];
+        let rents = [(-4i64).to_bits(), i64::MIN.to_bits()];
         let draft = Draft {
             n: 1,
             rooms: &[9, 9],

@@ -14,6 +14,6 @@ loop-i-preserved c =
     let i = c.loop-i.i in
     let at = c.args.at in
     let xs = c.args.numbers in
-    c.write_u64.ensures ∙ put_paste c.loop-i.sheet (at + 8 * i) (get_or xs i 0)
+    c.write.ensures.written ∙ put_paste c.loop-i.sheet (at + 8 * i) (get_or xs i 0)
     ∙ ap (λ (s : List ℕ). paste s (at + 8 * i) (number_part xs i) 8) c.loop-i.invariant
     ∙ pieces_more (number_part xs) c.args.sheet.now at 8 i (at + 8 * i) (λ k. (eight (get_or xs k 0)).0) refl (omega arith)

@@ -18,7 +18,7 @@ loop-i-preserved c =
     let at = 10 * i in
     let l : length before ≡ most_people = search rules in
     let b : get_or before i 0 ≡ prior before i = get_or_default before i 0 nobody (omega arith) in
-    c.write_u64.ensures ∙ ap (λ (x : ℕ). put (set (set c.loop-i.sheet at (get_or rooms i 0)) (at + 1) x) (at + 2) (get_or d i 0)) b
+    c.write.ensures.written ∙ ap (λ (x : ℕ). put (set (set c.loop-i.sheet at (get_or rooms i 0)) (at + 1) x) (at + 2) (get_or d i 0)) b
     ∙ person_paste c.loop-i.sheet at (get_or rooms i 0) (prior before i) (get_or d i 0) (omega arith)
     ∙ ap (λ (s : List ℕ). paste s at (person_part rooms before d i) 10) c.loop-i.invariant
     ∙ pieces_more (person_part rooms before d) c.args.sheet.now 0 10 i at (person_part_long rooms before d) (omega arith) (omega arith)

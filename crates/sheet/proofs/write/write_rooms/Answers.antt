@@ -16,7 +16,7 @@ loop-r-preserved c =
     let r = c.loop-r.r in
     let xs = c.args.rents.now in
     let at = 10 * n + 16 * r in
-    c.write_u64-in-loop-r.ensures ∙ ap (λ (s : List ℕ). put s (at + 8) (get_or xs (n + r) 0)) c.write_u64.ensures
+    c.write-in-loop-r.ensures.written ∙ ap (λ (s : List ℕ). put s (at + 8) (get_or xs (n + r) 0)) c.write.ensures.written
     ∙ room_paste c.loop-r.sheet at (get_or xs r 0) (get_or xs (n + r) 0) (omega arith)
     ∙ ap (λ (s : List ℕ). paste s at (room_part n xs r) 16) c.loop-r.invariant
     ∙ pieces_more (room_part n xs) c.args.sheet.now (10 * n) 16 r at (room_part_long n xs) refl (omega arith)

@@ -8,16 +8,16 @@ use Rattle.sheet.proofs.Entered.{bits_differ}
 use Rattle.sheet.proofs.Priced.{rent_test}
 use Rattle.sheet.proofs.statement.Terms.rent_off.Goals as goal
 
-pub wide_times-requires : goal.wide_times-requires
-wide_times-requires c =
+pub times-requires : goal.times-requires
+times-requires c =
     let v = c.own_less.ensures.within in
     let few = c.count-n.ensures.allowed.few in
     (record { low = omega (arith, ints); high = omega (arith, ints) }, omega arith)
 
-pub wide_sub-due-requires : goal.wide_sub-due-requires
-wide_sub-due-requires c =
+pub minus-due-requires : goal.minus-due-requires
+minus-due-requires c =
     let v = c.args.self.now.reckoned.small in
-    let w = c.wide_times.ensures.within in
+    let w = c.times.ensures.within in
     (record { low = omega (arith, ints); high = omega (arith, ints) }, record { low = omega (arith, ints); high = omega (arith, ints) })
 
 pub returns : goal.returns
@@ -26,12 +26,12 @@ returns c =
     let v = c.args.self.now.reckoned.small in
     let e : SFits w64 (number s.entries.now.rents c.args.r) = search rules in
     let f : SFits w128 c.from.result = record { sfits = c.from.type_inv } in
-    let i : SFits w128 c.wide_times.result = record { sfits = c.wide_times.type_inv } in
-    let j : SFits w128 c.wide_sub-due.result = record { sfits = c.wide_sub-due.type_inv } in
+    let i : SFits w128 c.times.result = record { sfits = c.times.type_inv } in
+    let j : SFits w128 c.minus-due.result = record { sfits = c.minus-due.type_inv } in
     let g : SFits w128 c.own_less.result = record { sfits = c.own_less.type_inv } in
     let k : SFits w128 c.args.self.now.surplus = omega (arith, ints) in
     bits_differ _ _ f j
     ∙ rent_test (house_in s) (claimed_by s) c.args.r _ _ _ _ _ _
     (c.from.ensures ∙ to_z-of_z w64 _ e ∙ sym (get_or-take (house_in s).n s.entries.now.rents c.args.r (pos 0) c.requires))
-    (to_z-of_z w128 _ g ∙ c.own_less.ensures.value) c.count-n.ensures.people (to_z-of_z w128 _ i ∙ c.wide_times.ensures.value)
-    (to_z-of_z w128 _ k ∙ c.args.self.now.reckoned.spare_is) c.wide_sub-due.ensures.value
+    (to_z-of_z w128 _ g ∙ c.own_less.ensures.value) c.count-n.ensures.people (to_z-of_z w128 _ i ∙ c.times.ensures.value)
+    (to_z-of_z w128 _ k ∙ c.args.self.now.reckoned.spare_is) c.minus-due.ensures.value

@@ -1,3 +1,4 @@
+mod Views
 mod Nearest
 mod Growth
 mod Rounds

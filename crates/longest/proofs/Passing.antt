@@ -20,7 +20,7 @@ put_step f xs i x h e below =
 keep_step : (f : ℕ → ℕ) (xs : List ℕ) (i : ℕ) → at xs i ≡ f i → ((j : ℕ) → j < i → at xs j ≡ f j) → (j : ℕ) → j < i + 1 → at xs j ≡ f j
 keep_step f xs i e below = below_more _ _ below e
 
-put_rest : (xs ys : List ℕ) (i x : ℕ) → ((j : ℕ) → i ≤ j → at xs j ≡ at ys j) → (j : ℕ) → i + 1 ≤ j → at (set xs i x) j ≡ at ys j
+pub put_rest : (xs ys : List ℕ) (i x : ℕ) → ((j : ℕ) → i ≤ j → at xs j ≡ at ys j) → (j : ℕ) → i + 1 ≤ j → at (set xs i x) j ≡ at ys j
 put_rest xs ys i x rest j h = let ne : j ≢ i = omega arith in rw get_or-set_other (rest j (omega arith))
 
 pub offers_same : {p q r t : List ℕ} → p ≡ r → q ≡ t → offers p q ≡ offers r t

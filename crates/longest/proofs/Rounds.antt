@@ -1,14 +1,17 @@
 -- The search from its start to its end.
-use Rattle.std.proofs.Common.{◌≡◌, ℕ, zero, suc, ◌+◌, ◌-◌, ◌<◌, ◌≤◌, cond, eqb, ltb, List, map, length, take, set, replicate, sym, refl, ap, ◌∙◌, subst, inl, inr, arith, get_or-set_other, get_or-set_same}
+use Rattle.std.proofs.Common.{◌≡◌, ℕ, zero, suc, ◌+◌, ◌-◌, ◌<◌, ◌≤◌, cond, eqb, ltb, List, map, length, take, set, replicate, sym, refl, ap, ◌∙◌, subst, inl, inr, arith, get_or-set_other, get_or-set_same, unwrap_or}
 use Rattle.std.specs.List.{range_with_len}
-use Rattle.std.proofs.lemmas.List.{length-take-le, get_or-take, get_or-replicate, length-replicate}
+use Rattle.std.proofs.lemmas.List.{length-take-le, take-take, get_or-take, get_or-replicate, length-replicate}
 use Rattle.std.proofs.lemmas.Bool.{cases_eq, eq-eqb, ne_eqb, cond-true, cond-false}
 use Rattle.std.proofs.lemmas.List.Sums.{count_by-le-length}
 use Rattle.std.proofs.lemmas.List.FromFn.{get_or-map-range_with_len, length-map-range_with_len, fill_by_all}
 use Rattle.rooms.specs.Before.{nobody, Ends}
 use Rattle.assignment.specs.Search.{at}
 use Rattle.longest.specs.Run.{Offers, offers, through, first_offers, State, state, lengthened, run, start, nearest}
-use Rattle.longest.proofs.Nearest.{Next, next, nothing_longer}
+use Rattle.longest.specs.View.{lefts, befores, offered, standing}
+use Rattle.longest.specs.declared.Row.{Row}
+use Rattle.longest.proofs.Nearest.{Next, next, nothing_longer, Taken}
+use Rattle.longest.proofs.Views.{left_at, lefts_long, before_at, lefts_set, befores_set}
 use Rattle.longest.proofs.Growth.{Offered, Grown, lower, through_wide, through_whence, fewer, grows}
 
 module _ (n : ℕ) (s : ℕ → ℕ → ℕ) (u : List ℕ) (fits : n ≤ length u) where
@@ -89,30 +92,37 @@ module _ (s : ℕ → ℕ → ℕ) (n r : ℕ) (x y : State) (e : run s n (n - r
   unfolding run
   run_all h = let d : n - r ≡ 0 = omega arith in ap (λ t. run s n t x) (sym d) ∙ e
 
--- A round on slices: person k is next.
-module _ (n : ℕ) (l o : List ℕ) (k : ℕ) (q : k ≡ nearest n l o n) (ne : k ≡ n → ⊥) where
-  next_is : Next n l o k
-  next_is = subst (λ j. Next n l o j) (sym q) (next n l o (λ z. ne (q ∙ z)))
+-- A round on rows: the person `to` takes the offer, which leaves least.
+module _ (n : ℕ) (rows others : List Row) (to : ℕ) (offer : Row) (t : Taken n rows others to offer) where
+  next_is : Next n (lefts rows) (lefts others) to
+  next_is = subst (λ j. Next n (lefts rows) (lefts others) j) t.1 (next n (lefts rows) (lefts others) (λ z. omega (arith, t.0, t.1)))
 
-  pub next_here : k < n
-  next_here = next_is.here
+  offer_left : offer.left ≡ at (lefts others) to
+  offer_left = ap (λ (row : Row). row.left) t.2 ∙ left_at others to
 
-  pub next_small : (c : ℕ) → ((i : ℕ) → i < n → at l i ≤ c) → at o k ≤ c
-  next_small c all = omega (arith, all k next_here, next_is.longer)
+  pub offer_small : (c : ℕ) → ((i : ℕ) → i < n → at (lefts rows) i ≤ c) → offer.left ≤ c
+  offer_small c all = omega (arith, offer_left, all to t.0, next_is.longer)
 
-  pub left_small : (c : ℕ) → length l ≡ n → ((i : ℕ) → i < n → at l i ≤ c) → (i : ℕ) → i < n → at (set l k (at o k)) i ≤ c
-  left_small c e all i h = elim (cases_eq i k) [
-    | inl z ↦ subst (λ j. at (set l k (at o k)) j ≤ c) (sym z) (omega (arith, get_or-set_same l k (at o k) 0 (omega (arith, next_here)), next_small c all))
-    | inr z ↦ omega (arith, get_or-set_other l k i (at o k) 0 z, all i h)
-  ]
+  pub left_small : (c : ℕ) → length rows ≡ n → ((i : ℕ) → i < n → at (lefts rows) i ≤ c) → (i : ℕ) → i < n → at (lefts (set rows to offer)) i ≤ c
+  left_small c e all i h = rw lefts_set (elim (cases_eq i to) [
+    | inl z ↦ subst (λ j. at (set (lefts rows) to offer.left) j ≤ c) (sym z)
+        (omega (arith, get_or-set_same (lefts rows) to offer.left 0 (omega (arith, t.0, lefts_long rows)), offer_small c all))
+    | inr z ↦ omega (arith, get_or-set_other (lefts rows) to i offer.left 0 z, all i h)
+  ])
 
-  pub round_more : (s : ℕ → ℕ → ℕ) (b f : List ℕ) (r m : ℕ) (y : State) (p w : List ℕ) → run s n (n - r) (state l b (offers o f) m) ≡ y → m ≡ r → r < n → offers p w ≡ through s n k (at o k) (offers o f) →
-      run s n (n - (r + 1)) (state (set l k (at o k)) (set b k (at f k)) (offers p w) (r + 1)) ≡ y
+  pub round_more : (s : ℕ → ℕ → ℕ) (r m : ℕ) (y : State) (after : List Row) → length others ≡ n → run s n (n - r) (standing rows others m) ≡ y → m ≡ r → r < n →
+      offered after ≡ through s n to offer.left (offered others) → run s n (n - (r + 1)) (standing (set rows to offer) after (r + 1)) ≡ y
   unfolding lengthened
-  round_more s b f r m y p w e em h eo =
-      ap (λ x. run s n (n - (r + 1)) (state (set l k (at o k)) (set b k (at f k)) x (r + 1))) eo
-      ∙ ap (λ j. run s n (n - (r + 1)) (state (set l k (at o k)) (set b k (at f k)) (through s n k (at o k) (offers o f)) (j + 1))) (sym em)
-      ∙ run_more s n r (state l b (offers o f) m) y e k h q ne
+  round_more s r m y after lo e em h eo =
+      let go = λ (x : State). run s n (n - (r + 1)) x in
+      let l = lefts_set rows to offer ∙ ap (λ x. set (lefts rows) to x) offer_left in
+      let b = befores_set rows to offer ∙ ap (λ x. set (befores rows) to x)
+      (ap (λ (row : Row). unwrap_or row.before nobody) t.2 ∙ before_at others to (omega (arith, t.0))) in
+      ap (λ x. go (state (lefts (set rows to offer)) (befores (set rows to offer)) x (r + 1))) (eo ∙ ap (λ x. through s n to x (offered others)) offer_left)
+      ∙ ap (λ x. go (state x (befores (set rows to offer)) (through s n to (at (lefts others) to) (offered others)) (r + 1))) l
+      ∙ ap (λ x. go (state (set (lefts rows) to (at (lefts others) to)) x (through s n to (at (lefts others) to) (offered others)) (r + 1))) b
+      ∙ ap (λ j. go (state (set (lefts rows) to (at (lefts others) to)) (set (befores rows) to (at (befores others) to)) (through s n to (at (lefts others) to) (offered others)) (j + 1))) (sym em)
+      ∙ run_more s n r (standing rows others m) y e to h (sym t.1) (λ z. omega (arith, t.0))
 
 -- Where the search ends: no offer makes a row longer, and there were fewer rounds than people.
 pub record Ended (n : ℕ) (s : ℕ → ℕ → ℕ) (u : List ℕ) (x : State) : Type 0 where
@@ -140,6 +150,19 @@ pub start_is : (s : ℕ → ℕ → ℕ) (n : ℕ) (u l b o f : List ℕ) → l 
 unfolding start
 start_is s n u l b o f el eb eo =
     ap (λ x. state x b (offers o f) 0) el ∙ ap (λ x. state (take n u) x (offers o f) 0) eb ∙ ap (λ x. state (take n u) (replicate n nobody) x 0) eo
+
+-- Only the numbers of the n people count.
+first_take : (s : ℕ → ℕ → ℕ) (n : ℕ) (u : List ℕ) (k : ℕ) → k ≤ n → first_offers s n (take n u) k ≡ first_offers s n u k
+unfolding first_offers
+first_take s n u zero h = ap (λ x. offers x (replicate n nobody)) (take-take n n u (omega arith))
+first_take s n u (suc k) h =
+    ap (λ x. through s n k x (first_offers s n (take n u) k)) (get_or-take n u k 0 (omega arith)) ∙ ap (through s n k (at u k)) (first_take s n u k (omega arith))
+
+pub start_take : (s : ℕ → ℕ → ℕ) (n : ℕ) (u : List ℕ) → start s n (take n u) ≡ start s n u
+unfolding start
+start_take s n u =
+    ap (λ x. state x (replicate n nobody) (first_offers s n (take n u) n) 0) (take-take n n u (omega arith))
+    ∙ ap (λ x. state (take n u) (replicate n nobody) x 0) (first_take s n u n (omega arith))
 
 -- The search looks only at the slacks among the n.
 pub map_same : (f g : ℕ → ℕ) (n : ℕ) → ((i : ℕ) → i < n → f i ≡ g i) → map f (range_with_len 0 n) ≡ map g (range_with_len 0 n)

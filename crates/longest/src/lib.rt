@@ -9,7 +9,9 @@ ghost use Rattle.rooms.specs.Rows.{Longest, signed};
 ghost use Rattle.rooms.specs.Before.{RowsShown};
 ghost use Rattle.rooms.specs.View.{house};
 ghost use Rattle.assignment.specs.Search.{at};
-ghost use Rattle.longest.specs.Run.{slack, in_table, Table, offers, through, first_offers, state, nearer, run, start};
+ghost use Rattle.rooms.specs.Before.{nobody};
+ghost use Rattle.longest.specs.Run.{slack, in_table, Table, through, first_offers, run, start};
+ghost use Rattle.longest.specs.View.{lefts, befores, offered, standing};
 ghost use Rattle.assignment.specs.Promise.{Solved};
 ghost use Rattle.longest.specs.Promise.{work_len, Found, SearchEnds, SameRun, OneLongest};
 
@@ -55,9 +57,14 @@ pub fn longest_rows(
     ensures few { result.rounds < (house group.now).n }
     ensures clean { work.new ≡ replicate (work_len (house group.now).n) 0 ++ drop (work_len (house group.now).n) work.old }
 {
-    let n = group.count();
-    let needed = work_len(n);
-    let found = find(group, n, rooms, persons, prices, &mut work[0..needed]);
+    let best = Best {
+        group: *group,
+        rooms,
+        persons,
+        prices,
+    };
+    let needed = work_len(group.count());
+    let found = best.longest(&mut work[0..needed]);
     work[0..needed].fill(0);
     found
 }
@@ -69,193 +76,180 @@ pub fn rows_stand()
     ensures one { OneLongest }
 {}
 
-// One person's line of the table: the slack of the way to them from each person, by what each room is worth to them.
-fn write_slacks(
-    mine: [u32; MOST_PEOPLE],
-    number: u64,
-    rooms: &[u32],
+// A sharing of highest joint worth, with numbers that show it best.
+#[derive(Clone, Copy)]
+struct Best<'a> {
+    group: Group<'a>,
+    rooms: &'a [u32],
+    persons: [u64; MOST_PEOPLE],
     prices: [u64; MOST_PEOPLE],
-    line: &mut [u64],
-)
-    requires sizes { (length line.old ≤ most_people) × ((length line.old ≤ length rooms.now) × (number ≤ most_worth)) }
-    requires within { (k : ℕ) → k < length line.old → at rooms.now k < length line.old }
-    requires covered { (((r : ℕ) → r < length line.old → at mine r ≤ number + at prices r)) × (((r : ℕ) → r < length line.old → at prices r ≤ most_worth)) }
-    ensures { line.new ≡ map (λ k. number + at prices (at rooms.now k) - at mine (at rooms.now k)) (range_with_len 0 (length line.old)) }
-{
-    for k in 0..line.len() {
-        let r = rooms[k] as usize;
-        line[k] = number + prices[r] - mine[r] as u64;
-    }
+    ghost solved: { Solved (house group) most_worth rooms.now persons prices },
 }
 
-// Everybody takes the row through person k, which leaves `rest` to k, where it leaves less than their best offer.
-fn offer_through(n: usize, table: &[u64], k: usize, rest: u64, offer: &mut [u64], from: &mut [u8])
-    requires table { Table n table.now }
-    requires sizes { (length offer.old ≡ n) × ((length from.old ≡ n) × ((k < n) × (rest ≤ most_worth))) }
-    ensures { offers offer.new from.new ≡ through (in_table table.now n) n k rest (offers offer.old from.old) }
-{
-    for i in 0..n {
-        let place = i * n + k;
-        let left = rest + table[place];
-        if left < offer[i] {
-            offer[i] = left;
-            from[i] = k as u8;
+// The slacks of the ways among n people, a line for the ways to each of them.
+#[derive(Clone, Copy)]
+struct Ways<'a> {
+    n: usize,
+    slacks: &'a [u64],
+    ghost table: { Table n slacks.now },
+}
+
+// A row that ends at a person: what it leaves of their number, and who stands before them.
+#[derive(Clone, Copy)]
+struct Row {
+    left: u64,
+    before: Option<u8>,
+}
+
+impl Best<'_> {
+    // One person's line of the table: the slack of the way to them from each person, by what each room is worth to them.
+    fn write_slacks(&self, i: usize, line: &mut [u64])
+        requires { (i < (house self.now.group).n) × (length line.old ≡ (house self.now.group).n) }
+        ensures { (k : ℕ) → k < (house self.now.group).n
+            → at line.new k ≡ slack (house self.now.group) self.now.rooms.now self.now.persons self.now.prices k i }
+    {
+        let mine = self.group.row(i);
+        let number = self.persons[i];
+        for (k, slack) in line.iter_mut().enumerate() {
+            let r = self.rooms[k] as usize;
+            *slack = number + self.prices[r] - u64::from(mine[r]);
         }
     }
-}
 
-// The table of slacks, a line for each person.
-fn write_table(
-    group: &Group,
-    n: usize,
-    rooms: &[u32],
-    persons: [u64; MOST_PEOPLE],
-    prices: [u64; MOST_PEOPLE],
-    table: &mut [u64],
-)
-    requires group { (n ≡ (house group.now).n) × (n ≤ most_people) }
-    requires solved { Solved (house group.now) most_worth rooms.now persons prices }
-    requires size { length table.old ≡ n * n }
-    ensures { (k i : ℕ) → k < n → i < n → in_table table.new n k i ≡ slack (house group.now) rooms.now persons prices k i }
-{
-    for i in 0..n {
-        let mine = group.row(i);
-        write_slacks(
-            mine,
-            persons[i],
-            rooms,
-            prices,
-            &mut table[i * n..i * n + n],
-        );
-    }
-}
-
-// The first offers: everybody alone, and then the ways from each person.
-fn first_offers(
-    n: usize,
-    table: &[u64],
-    persons: [u64; MOST_PEOPLE],
-    offer: &mut [u64],
-    from: &mut [u8],
-)
-    requires table { (Table n table.now) × (((i : ℕ) → i < n → at persons i ≤ most_worth)) }
-    requires sizes { (length offer.old ≡ n) × (length from.old ≡ n) }
-    ensures { offers offer.new from.new ≡ first_offers (in_table table.now n) n persons n }
-{
-    offer.copy_from_slice(&persons[0..n]);
-    from.fill(NOBODY);
-    for k in 0..n {
-        offer_through(n, table, k, persons[k], offer, from);
-    }
-}
-
-// Whether person i's offer makes their row longer, and is to be taken before that of `to`, which is n where there is none yet.
-fn is_nearer(n: usize, left: &[u64], offer: &[u64], i: usize, to: usize) -> bool
-    requires { (length left.now ≡ n) × ((length offer.now ≡ n) × ((i < n) × (to ≤ n))) }
-    ensures { result ≡ nearer n left.now offer.now i to }
-{
-    offer[i] < left[i] && (to == n || offer[i] < offer[to])
-}
-
-// Makes rows longer, one in a round: that of the person whose offer leaves least, until no offer makes one longer. How many rounds it took.
-fn lengthen(
-    n: usize,
-    table: &[u64],
-    left: &mut [u64],
-    before: &mut [u8],
-    offer: &mut [u64],
-    from: &mut [u8],
-) -> usize
-    requires table { Table n table.now }
-    requires sizes { (length left.old ≡ n) × ((length before.old ≡ n) × ((length offer.old ≡ n) × (length from.old ≡ n))) }
-    requires small { (i : ℕ) → i < n → at left.old i ≤ most_worth }
-    ensures { state left.new before.new (offers offer.new from.new) result
-        ≡ run (in_table table.now n) n n (state left.old before.old (offers offer.old from.old) 0) }
-{
-    let mut rounds = 0;
-    'longer: for round in 0..n {
-        let mut to = n;
+    // The table of slacks, a line for each person.
+    fn write_table(&self, table: &mut [u64])
+        requires { length table.old ≡ (house self.now.group).n * (house self.now.group).n }
+        ensures { (k i : ℕ) → k < (house self.now.group).n → i < (house self.now.group).n
+            → in_table table.new (house self.now.group).n k i
+            ≡ slack (house self.now.group) self.now.rooms.now self.now.persons self.now.prices k i }
+    {
+        let n = self.group.count();
+        // a person's line of the table is lent on to be written
         for i in 0..n {
-            if is_nearer(n, left, offer, i, to) {
-                to = i;
-            }
+            self.write_slacks(i, &mut table[i * n..i * n + n]);
         }
-        if to == n {
-            break 'longer;
-        }
-        let rest = offer[to];
-        left[to] = rest;
-        before[to] = from[to];
-        offer_through(n, table, to, rest, offer, from);
-        rounds = round + 1;
     }
-    rounds
+
+    // The longest rows, on a table of just the right length.
+    fn longest(&self, table: &mut [u64]) -> LongestRows
+        requires { length table.old ≡ (house self.now.group).n * (house self.now.group).n }
+        ensures { Found (house self.now.group) self.now.rooms.now self.now.persons self.now.prices result.d result.before result.rounds }
+    {
+        self.write_table(table);
+        let n = self.group.count();
+        let ways = Ways { n, slacks: table };
+        let mut rows = alone(self.persons);
+        let mut offers = rows;
+        let rounds = ways.search(&mut rows[0..n], &mut offers[0..n]);
+        LongestRows {
+            d: lengths(self.persons, rows),
+            before: befores(rows),
+            rounds,
+        }
+    }
 }
 
-// The search for the longest rows: what they leave of each person's number, and who stands before each. How many rounds it took.
-fn search_rows(
-    n: usize,
-    table: &[u64],
-    persons: [u64; MOST_PEOPLE],
-    left: &mut [u64],
-    before: &mut [u8],
-    offer: &mut [u64],
-    from: &mut [u8],
-) -> usize
-    requires table { (Table n table.now) × (((i : ℕ) → i < n → at persons i ≤ most_worth)) }
-    requires sizes { (length left.old ≡ n) × ((length before.old ≡ n) × ((length offer.old ≡ n) × (length from.old ≡ n))) }
-    ensures { state left.new before.new (offers offer.new from.new) result
-        ≡ run (in_table table.now n) n n (start (in_table table.now n) n persons) }
+// Everybody alone in their row.
+fn alone(persons: [u64; MOST_PEOPLE]) -> [Row; MOST_PEOPLE]
+    ensures numbers { lefts result ≡ persons }
+    ensures nobody { befores result ≡ replicate most_people nobody }
 {
-    left.copy_from_slice(&persons[0..n]);
-    before.fill(NOBODY);
-    first_offers(n, table, persons, offer, from);
-    lengthen(n, table, left, before, offer, from)
+    persons.map(|left| Row { left, before: None })
 }
 
 // What the longest row to each person takes of their number: its length.
-fn lengths(n: usize, persons: [u64; MOST_PEOPLE], left: [u64; MOST_PEOPLE]) -> [u64; MOST_PEOPLE]
-    requires { (n ≤ most_people) × (((i : ℕ) → i < n → at left i ≤ at persons i)) }
-    ensures { result ≡ map (λ i. at persons i - at left i) (range_with_len 0 n) ++ replicate (most_people - n) 0 }
+fn lengths(persons: [u64; MOST_PEOPLE], rows: [Row; MOST_PEOPLE]) -> [u64; MOST_PEOPLE]
+    requires { (i : ℕ) → i < most_people → at (lefts rows) i ≤ at persons i }
+    ensures { result ≡ map (λ i. at persons i - at (lefts rows) i) (range_with_len 0 most_people) }
 {
-    let mut d = [0; MOST_PEOPLE];
-    for i in 0..n {
-        d[i] = persons[i] - left[i];
+    let mut d = persons;
+    for (i, length) in d.iter_mut().enumerate() {
+        *length -= rows[i].left;
     }
     d
 }
 
-// The longest rows, on a table of just the right length.
-fn find(
-    group: &Group,
-    n: usize,
-    rooms: &[u32],
-    persons: [u64; MOST_PEOPLE],
-    prices: [u64; MOST_PEOPLE],
-    table: &mut [u64],
-) -> LongestRows
-    requires group { (n ≡ (house group.now).n) × ((0 < n) × (n ≤ most_people)) }
-    requires solved { Solved (house group.now) most_worth rooms.now persons prices }
-    requires size { length table.old ≡ n * n }
-    ensures { Found (house group.now) rooms.now persons prices result.d result.before result.rounds }
+// Who stands before each person.
+fn befores(rows: [Row; MOST_PEOPLE]) -> [u8; MOST_PEOPLE]
+    ensures { result ≡ befores rows }
 {
-    write_table(group, n, rooms, persons, prices, table);
-    let mut left = persons;
-    let mut before = [NOBODY; MOST_PEOPLE];
-    let mut offer = persons;
-    let mut from = [NOBODY; MOST_PEOPLE];
-    let rounds = search_rows(
-        n,
-        table,
-        persons,
-        &mut left[0..n],
-        &mut before[0..n],
-        &mut offer[0..n],
-        &mut from[0..n],
-    );
-    LongestRows {
-        d: lengths(n, persons, left),
-        before,
-        rounds,
+    rows.map(|row| row.before.unwrap_or(NOBODY))
+}
+
+impl Ways<'_> {
+    // The slack of the way from person k to person i.
+    fn slack(&self, k: usize, i: usize) -> u64
+        requires { (k < self.now.n) × (i < self.now.n) }
+        ensures value { result ≡ in_table self.now.slacks.now self.now.n k i }
+        ensures small { result ≤ 2 * most_worth }
+    {
+        self.slacks[i * self.n + k]
+    }
+
+    // Everybody takes the row through person k, which leaves `rest` to k, where it leaves less than their best offer.
+    fn offer_through(&self, k: usize, rest: u64, offers: &mut [Row])
+        requires { (length offers.old ≡ self.now.n) × (k < self.now.n) × (rest ≤ most_worth) }
+        ensures { offered offers.new ≡ through (in_table self.now.slacks.now self.now.n) self.now.n k rest (offered offers.old) }
+    {
+        for (i, offer) in offers.iter_mut().enumerate() {
+            let left = rest + self.slack(k, i);
+            if left < offer.left {
+                *offer = Row {
+                    left,
+                    before: Some(k as u8),
+                };
+            }
+        }
+    }
+
+    // The first offers: everybody alone, and then the ways from each person.
+    fn first_offers(&self, rows: &[Row], offers: &mut [Row])
+        requires alone { (length rows.now ≡ self.now.n) × (befores rows.now ≡ replicate self.now.n nobody) × (offers.old ≡ rows.now) }
+        requires small { (i : ℕ) → i < self.now.n → at (lefts rows.now) i ≤ most_worth }
+        ensures { offered offers.new
+            ≡ first_offers (in_table self.now.slacks.now self.now.n) self.now.n (lefts rows.now) self.now.n }
+    {
+        for (k, row) in rows.iter().enumerate() {
+            self.offer_through(k, row.left, offers);
+        }
+    }
+
+    // Makes rows longer, one in a round: that of the person whose offer leaves least, until no offer makes one longer. How many rounds it took.
+    fn lengthen(&self, rows: &mut [Row], offers: &mut [Row]) -> usize
+        requires sizes { (length rows.old ≡ self.now.n) × (length offers.old ≡ self.now.n) }
+        requires small { (i : ℕ) → i < self.now.n → at (lefts rows.old) i ≤ most_worth }
+        ensures { standing rows.new offers.new result
+            ≡ run (in_table self.now.slacks.now self.now.n) self.now.n self.now.n (standing rows.old offers.old 0) }
+    {
+        let mut rounds = 0;
+        'longer: for round in 0..self.n {
+            let mut next: Option<(usize, Row)> = None;
+            for (i, offer) in offers.iter().enumerate() {
+                if offer.left < rows[i].left
+                    && next.is_none_or(|(_, least)| offer.left < least.left)
+                {
+                    next = Some((i, *offer));
+                }
+            }
+            let Some((to, offer)) = next else {
+                break 'longer;
+            };
+            rows[to] = offer;
+            self.offer_through(to, offer.left, offers);
+            rounds = round + 1;
+        }
+        rounds
+    }
+
+    // The search for the longest rows, from everybody alone. How many rounds it took.
+    fn search(&self, rows: &mut [Row], offers: &mut [Row]) -> usize
+        requires alone { (length rows.old ≡ self.now.n) × (befores rows.old ≡ replicate self.now.n nobody) × (offers.old ≡ rows.old) }
+        requires small { (i : ℕ) → i < self.now.n → at (lefts rows.old) i ≤ most_worth }
+        ensures { standing rows.new offers.new result
+            ≡ run (in_table self.now.slacks.now self.now.n) self.now.n self.now.n
+            (start (in_table self.now.slacks.now self.now.n) self.now.n (lefts rows.old)) }
+    {
+        self.first_offers(rows, offers);
+        self.lengthen(rows, offers)
     }
 }

@@ -1,7 +1,7 @@
 -- What is handed back: the run's, in arrays.
-use Rattle.std.proofs.Common.{◌≡◌, ℕ, zero, suc, ◌-◌, ◌<◌, ◌≤◌, List, ◌++◌, map, length, take, drop, replicate, ℤ, pos, ◌+ℤ◌, ◌≤ℤ◌, sym, ap, ◌∙◌, subst, inl, inr, arith}
+use Rattle.std.proofs.Common.{◌≡◌, ℕ, zero, suc, ◌-◌, ◌<◌, ◌≤◌, List, ◌++◌, map, length, take, replicate, ℤ, pos, ◌+ℤ◌, ◌≤ℤ◌, sym, ap, ◌∙◌, subst, inl, inr, arith}
 use Rattle.std.specs.List.{range_with_len}
-use Rattle.std.proofs.lemmas.List.{get_or_append_left, get_or-append_right, get_or-drop, get_or_past, drop-replicate, length-append, length-map}
+use Rattle.std.proofs.lemmas.List.{get_or_past, length-append, length-map}
 use Rattle.std.proofs.lemmas.List.FromFn.{get_or-map-range_with_len, length-map-range_with_len}
 use Rattle.std.proofs.lemmas.Int.{ints}
 use Rattle.std.proofs.lemmas.Bool.{cases_lt}
@@ -19,69 +19,32 @@ use Rattle.longest.proofs.Lines.{Filled}
 use Rattle.longest.proofs.Rounds.{start_take, whole_same}
 use Rattle.longest.proofs.Slacks.{number_signed, left_within, run_shown, rounds_few}
 use Rattle.rooms.proofs.Before.{shown_longest}
-use Rattle.longest.proofs.Views.{lefts_take, lefts_long, lefts_front, befores_front}
-use Rattle.longest.proofs.Padded.{padded_reads, padded_by}
+use Rattle.longest.proofs.Padded.{padded_reads}
 
-module _ (h : House) (room u v : List ℕ) (q : Solved h most_worth room u v) (n : ℕ) (e : n ≡ h.n) (few : n ≤ most_people) (table : List ℕ)
-    (filled : Filled n (slack h room u v) n table) (rows others all : List Row) (m : ℕ) (numbers : lefts all ≡ u) (alone : befores all ≡ replicate most_people nobody)
-    (x : standing rows others m ≡ run (in_table table n) n n (start (in_table table n) n (lefts (take (n - 0) all)))) where
+module _ (h : House) (room u v : List ℕ) (q : Solved h most_worth room u v) (n : ℕ) (e : n ≡ h.n) (table : List ℕ) (filled : Filled n (slack h room u v) n table)
+    (alone rows others : List Row) (m : ℕ) (numbers : lefts alone ≡ take (n - 0) u)
+    (x : standing rows others m ≡ run (in_table table n) n n (start (in_table table n) n (lefts alone))) where
   whole : standing rows others m ≡ whole_run h room u v
   unfolding whole_run
   whole =
-      x ∙ ap (λ w. run (in_table table n) n n (start (in_table table n) n w)) (lefts_take all n u numbers)
-      ∙ ap (run (in_table table n) n n) (start_take (in_table table n) n u)
-      ∙ whole_same n (in_table table n) (slack h room u v) filled u
+      x ∙ ap (λ w. run (in_table table n) n n (start (in_table table n) n w)) (numbers ∙ ap (λ j. take j u) (omega arith))
+      ∙ ap (run (in_table table n) n n) (start_take (in_table table n) n u) ∙ whole_same n (in_table table n) (slack h room u v) filled u
       ∙ ap (λ j. run (slack h room u v) j j (start (slack h room u v) j u)) e
 
-  -- What is left to everybody: to the n people by their rows, and else what there was.
-  left : List ℕ
-  left = lefts (rows ++ drop (n - 0) all)
+  reads : (i : ℕ) → at (lefts rows) i ≡ at (whole_run h room u v).left i
+  reads i = ap (λ (y : State). at y.left i) whole
 
-  module _ (some : 0 < n) (fits : length u ≡ most_people) (wide : length rows ≡ n) where
-    reads : (i : ℕ) → i < n → at left i ≡ at (whole_run h room u v).left i
-    unfolding left
-    reads i hi =
-        let long = lefts_long rows in
-        ap (λ z. at z i) (lefts_front rows all n u numbers) ∙ get_or_append_left (lefts rows) (drop n u) 0 i (omega arith) ∙ ap (λ (y : State). at y.left i) whole
+  pub within : 0 < n → n ≤ nobody → n ≤ length u → (i : ℕ) → i < n → at (lefts rows) i ≤ at u i
+  within some few fits i hi = omega (arith, reads i, left_within h room u v q.certified (omega arith) (omega arith) (omega arith) i (omega arith))
 
-    rest : (i : ℕ) → n ≤ i → at left i ≡ at u i
-    unfolding left
-    rest i hi =
-        ap (λ z. at z i) (lefts_front rows all n u numbers) ∙ get_or-append_right (lefts rows) (drop n u) n i 0 (lefts_long rows ∙ wide) hi
-        ∙ get_or-drop n u (i - n) 0 ∙ ap (at u) (omega arith)
-
-    -- Nobody's row leaves more than their number, and past the people nothing is taken.
-    left_low : (i : ℕ) → at left i ≤ at u i
-    left_low i = elim (cases_lt i n) [
-      | inl hi ↦ omega (arith, reads i hi, left_within h room u v q.certified (omega arith) (omega arith) (omega arith) i (omega arith))
-      | inr hi ↦ omega (arith, rest i hi)
-    ]
-
-    lengths_are : (d : List ℕ) → d ≡ map (λ i. at u i - at left i) (range_with_len 0 most_people) → d ≡ longest_of h room u v ++ replicate (most_people - h.n) 0
-    lengths_are d ed =
-        let f = λ (i : ℕ). at u i - at left i in
-        let long : length d ≡ most_people = ap length ed ∙ length-map-range_with_len f 0 most_people in
-        let each = λ (i : ℕ) (lt : i < most_people). ap (λ z. at z i) ed ∙ get_or-map-range_with_len f 0 most_people i i 0 lt (omega arith) in
-        padded_by (λ i. at u i - at (whole_run h room u v).left i) h.n most_people d (omega arith) long
-        (λ i hi. each i (omega arith) ∙ ap (λ z. at u i - z) (reads i (omega arith)))
-        (λ i hi. elim (cases_lt i most_people) [
-          | inl lt ↦ omega (arith, each i lt, rest i (omega arith))
-          | inr ge ↦ get_or_past d i 0 (omega arith)
-        ])
-
-    pub within : (i : ℕ) → at (lefts (rows ++ drop (n - 0) all)) i ≤ at u i
-    unfolding left
-    within = left_low
-
-    pub found : (d w : List ℕ) → d ≡ map (λ i. at u i - at (lefts (rows ++ drop (n - 0) all)) i) (range_with_len 0 most_people) → w ≡ befores (rows ++ drop (n - 0) all) →
-        Found h room u v d w m
-    unfolding left
-    found d w ed ew = record {
-      lengths = lengths_are d ed;
-      priors = ew ∙ befores_front rows all n (replicate most_people nobody) alone ∙ ap (λ z. befores rows ++ z) (drop-replicate n most_people nobody)
-          ∙ ap (λ (y : State). y.before ++ replicate (most_people - n) nobody) whole ∙ ap (λ j. before_of h room u v ++ replicate (most_people - j) nobody) e;
-      count = ap (λ (y : State). y.rounds) whole;
-    }
+  pub found : (d w : List ℕ) → d ≡ map (λ i. at u i - at (lefts rows) i) (range_with_len 0 n) ++ replicate (most_people - n) 0 →
+      w ≡ befores rows ++ replicate (most_people - n) nobody → Found h room u v d w m
+  found d w ed ew = record {
+    lengths = ed ∙ ap (λ (y : State). map (λ i. at u i - at y.left i) (range_with_len 0 n) ++ replicate (most_people - n) 0) whole
+        ∙ ap (λ j. map (λ i. at u i - at (whole_run h room u v).left i) (range_with_len 0 j) ++ replicate (most_people - j) 0) e;
+    priors = ew ∙ ap (λ (y : State). y.before ++ replicate (most_people - n) nobody) whole ∙ ap (λ j. before_of h room u v ++ replicate (most_people - j) nobody) e;
+    count = ap (λ (y : State). y.rounds) whole;
+  }
 
 -- What reads the same is shown the same.
 ends_same : (b w : List ℕ) → ((i : ℕ) → prior w i ≡ prior b i) → (m i : ℕ) → Ends b m i → Ends w m i

@@ -101,6 +101,11 @@ struct Row {
     before: Option<u8>,
 }
 
+const NO_ROW: Row = Row {
+    left: 0,
+    before: None,
+};
+
 impl Best<'_> {
     // One person's line of the table: the slack of the way to them from each person, by what each room is worth to them.
     fn write_slacks(&self, i: usize, line: &mut [u64])
@@ -138,9 +143,11 @@ impl Best<'_> {
         self.write_table(table);
         let n = self.group.count();
         let ways = Ways { n, slacks: table };
-        let mut rows = alone(self.persons);
-        let mut offers = rows;
-        let rounds = ways.search(&mut rows[0..n], &mut offers[0..n]);
+        let mut people = [NO_ROW; MOST_PEOPLE];
+        let mut offers = [NO_ROW; MOST_PEOPLE];
+        let rows = &mut people[0..n];
+        stand_alone(&self.persons[0..n], rows);
+        let rounds = ways.search(rows, &mut offers[0..n]);
         LongestRows {
             d: lengths(self.persons, rows),
             before: befores(rows),
@@ -149,31 +156,43 @@ impl Best<'_> {
     }
 }
 
-// Everybody alone in their row.
-fn alone(persons: [u64; MOST_PEOPLE]) -> [Row; MOST_PEOPLE]
-    ensures numbers { lefts result ≡ persons }
-    ensures nobody { befores result ≡ replicate most_people nobody }
+// Everybody stands alone in their row.
+fn stand_alone(numbers: &[u64], rows: &mut [Row])
+    requires { length rows.old ≡ length numbers.now }
+    ensures left { lefts rows.new ≡ numbers.now }
+    ensures nobody { befores rows.new ≡ replicate (length numbers.now) nobody }
 {
-    persons.map(|left| Row { left, before: None })
+    for (i, row) in rows.iter_mut().enumerate() {
+        *row = Row {
+            left: numbers[i],
+            before: None,
+        };
+    }
 }
 
-// What the longest row to each person takes of their number: its length.
-fn lengths(persons: [u64; MOST_PEOPLE], rows: [Row; MOST_PEOPLE]) -> [u64; MOST_PEOPLE]
-    requires { (i : ℕ) → i < most_people → at (lefts rows) i ≤ at persons i }
-    ensures { result ≡ map (λ i. at persons i - at (lefts rows) i) (range_with_len 0 most_people) }
+// What the longest row to each person takes of their number: its length. Nothing past the people.
+fn lengths(persons: [u64; MOST_PEOPLE], rows: &[Row]) -> [u64; MOST_PEOPLE]
+    requires { (length rows.now ≤ most_people) × ((i : ℕ) → i < length rows.now → at (lefts rows.now) i ≤ at persons i) }
+    ensures { result ≡ map (λ i. at persons i - at (lefts rows.now) i) (range_with_len 0 (length rows.now))
+        ++ replicate (most_people - length rows.now) 0 }
 {
-    let mut d = persons;
-    for (i, length) in d.iter_mut().enumerate() {
-        *length -= rows[i].left;
+    let mut d = [0; MOST_PEOPLE];
+    for (i, row) in rows.iter().enumerate() {
+        d[i] = persons[i] - row.left;
     }
     d
 }
 
-// Who stands before each person.
-fn befores(rows: [Row; MOST_PEOPLE]) -> [u8; MOST_PEOPLE]
-    ensures { result ≡ befores rows }
+// Who stands before each person. Nobody past the people.
+fn befores(rows: &[Row]) -> [u8; MOST_PEOPLE]
+    requires { length rows.now ≤ most_people }
+    ensures { result ≡ befores rows.now ++ replicate (most_people - length rows.now) nobody }
 {
-    rows.map(|row| row.before.unwrap_or(NOBODY))
+    let mut before = [NOBODY; MOST_PEOPLE];
+    for (i, row) in rows.iter().enumerate() {
+        before[i] = row.before.unwrap_or(NOBODY);
+    }
+    before
 }
 
 impl Ways<'_> {
@@ -204,11 +223,13 @@ impl Ways<'_> {
 
     // The first offers: everybody alone, and then the ways from each person.
     fn first_offers(&self, rows: &[Row], offers: &mut [Row])
-        requires alone { (length rows.now ≡ self.now.n) × (befores rows.now ≡ replicate self.now.n nobody) × (offers.old ≡ rows.now) }
+        requires sizes { (length rows.now ≡ self.now.n) × (length offers.old ≡ self.now.n) }
+        requires alone { befores rows.now ≡ replicate self.now.n nobody }
         requires small { (i : ℕ) → i < self.now.n → at (lefts rows.now) i ≤ most_worth }
         ensures { offered offers.new
             ≡ first_offers (in_table self.now.slacks.now self.now.n) self.now.n (lefts rows.now) self.now.n }
     {
+        offers.copy_from_slice(rows);
         for (k, row) in rows.iter().enumerate() {
             self.offer_through(k, row.left, offers);
         }
@@ -243,7 +264,8 @@ impl Ways<'_> {
 
     // The search for the longest rows, from everybody alone. How many rounds it took.
     fn search(&self, rows: &mut [Row], offers: &mut [Row]) -> usize
-        requires alone { (length rows.old ≡ self.now.n) × (befores rows.old ≡ replicate self.now.n nobody) × (offers.old ≡ rows.old) }
+        requires sizes { (length rows.old ≡ self.now.n) × (length offers.old ≡ self.now.n) }
+        requires alone { befores rows.old ≡ replicate self.now.n nobody }
         requires small { (i : ℕ) → i < self.now.n → at (lefts rows.old) i ≤ most_worth }
         ensures { standing rows.new offers.new result
             ≡ run (in_table self.now.slacks.now self.now.n) self.now.n self.now.n

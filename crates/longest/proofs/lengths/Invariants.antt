@@ -6,6 +6,6 @@ use Rattle.longest.proofs.lengths.Given as goal
 
 abbrev pub invariant-loop-i : goal.invariant-loop-i
 invariant-loop-i l =
-    (length l.length-items ≡ most_people)
-    × ((j : ℕ) → j < l.i → at l.length-items j ≡ at l.fn.persons j - at (lefts l.rows) j)
-    × ((j : ℕ) → l.i ≤ j → at l.length-items j ≡ at l.fn.persons j)
+    (length l.d ≡ most_people)
+    × ((j : ℕ) → j < l.i → at l.d j ≡ at l.persons j - at (lefts l.rows) j)
+    × ((j : ℕ) → l.i ≤ j → at l.d j ≡ 0)

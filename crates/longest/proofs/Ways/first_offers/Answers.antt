@@ -1,4 +1,4 @@
-use Rattle.std.proofs.Common.{◌≡◌, length, take, sym, refl, ap, ◌∙◌, add-one, arith}
+use Rattle.std.proofs.Common.{◌≡◌, take, sym, refl, ap, ◌∙◌, add-one, arith, rules}
 use Rattle.std.proofs.lemmas.List.{take_all}
 use Rattle.longest.specs.Run.{through, first_offers}
 use Rattle.longest.specs.View.{lefts, offered}
@@ -11,12 +11,11 @@ unfolding first_offers
 loop-k-init c =
     let rows = c.args.rows.now in
     let e : take c.args.self.now.n (lefts rows) ≡ lefts rows = take_all _ _ (omega (arith, lefts_long rows)) in
-    ap offered c.requires.alone.2 ∙ offers_same (sym e) c.requires.alone.1
+    let same : c.copy_from_slice.new.self ≡ rows = search rules in
+    ap offered same ∙ offers_same (sym e) c.requires.alone
 
 pub offer_through-requires : goal.offer_through-requires
-offer_through-requires c =
-    let e = ap length c.requires.alone.2 in
-    (omega (arith, e), omega arith, omega (arith, left_at c.args.rows.now c.loop-k.k, c.requires.small c.loop-k.k (omega arith)))
+offer_through-requires c = (omega arith, omega arith, omega (arith, left_at c.args.rows.now c.loop-k.k, c.requires.small c.loop-k.k (omega arith)))
 
 pub loop-k-preserved : goal.loop-k-preserved
 unfolding first_offers

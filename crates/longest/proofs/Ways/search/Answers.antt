@@ -11,4 +11,4 @@ returns c =
     let n = c.args.self.now.n in
     let s = in_table c.args.self.now.slacks.now n in
     let rows = c.args.rows.now in
-    c.lengthen.ensures ∙ ap (run s n n) (start_is s n (lefts rows) _ _ _ _ (sym (take_all n (lefts rows) (omega (arith, lefts_long rows)))) c.requires.alone.1 c.first_offers.ensures)
+    c.lengthen.ensures ∙ ap (run s n n) (start_is s n (lefts rows) _ _ _ _ (sym (take_all n (lefts rows) (omega (arith, lefts_long rows)))) c.requires.alone c.first_offers.ensures)

@@ -1,5 +1,5 @@
 -- The person whose row is made longer next.
-use Rattle.std.proofs.Common.{◌≡◌, ℕ, zero, suc, ◌+◌, ◌<◌, ◌≤◌, Bool, true, false, cond, ◌⊎◌, List, refl, ◌∙◌, inl, inr, ⊎_elim, add-one, arith, get_or, ◌≢◌, Option, Some, None, MatchOption, ap}
+use Rattle.std.proofs.Common.{◌≡◌, ℕ, zero, suc, ◌+◌, ◌<◌, ◌≤◌, Bool, true, false, cond, ◌⊎◌, List, refl, ◌∙◌, inl, inr, ⊎_elim, add-one, arith, get_or, ◌≢◌, Option, Some, None, MatchOption}
 use Rattle.std.proofs.lemmas.Bool.{cases_eq, cases_lt, cond-true, cond-false}
 use Rattle.std.proofs.lemmas.Bool.Decides.{nat_tests}
 use Rattle.assignment.specs.Search.{at}
@@ -19,47 +19,45 @@ module _ (n : ℕ) (l o : List ℕ) (k a : ℕ) (e : nearest n l o k ≡ a) wher
   nearest_keeps : nearer n l o k a ≡ false → nearest n l o (k + 1) ≡ a
   nearest_keeps z = more ∙ cond-false _ k a z
 
--- The person whose row is made longer next, and their offer.
-abbrev pub Taken : ℕ → (rows others : List Row) → ℕ → Row → Type 0
-Taken n rows others to offer = (to < n) × (nearest n (lefts rows) (lefts others) n ≡ to) × (offer ≡ get_or others to nothing)
+-- The person whose row is made longer next, and what their offer leaves.
+abbrev pub Taken : ℕ → (rows others : List Row) → ℕ → ℕ → Type 0
+Taken n rows others to rest = (to < n) × (nearest n (lefts rows) (lefts others) n ≡ to) × (rest ≡ (get_or others to nothing).left)
 
--- The person found so far, of those below k, and their offer.
-abbrev pub Leads : ℕ → (rows others : List Row) → ℕ → Option (ℕ × Row) → Type 0
+-- The person found so far, of those below k, and what their offer leaves.
+abbrev pub Leads : ℕ → (rows others : List Row) → ℕ → Option (ℕ × ℕ) → Type 0
 Leads n rows others k found =
     MatchOption found (nearest n (lefts rows) (lefts others) k ≡ n)
-    (λ p. (p.0 < n) × (nearest n (lefts rows) (lefts others) k ≡ p.0) × (p.1 ≡ get_or others p.0 nothing))
+    (λ p. (p.0 < n) × (nearest n (lefts rows) (lefts others) k ≡ p.0) × (p.1 ≡ (get_or others p.0 nothing).left))
 
-pub leads_takes : (n : ℕ) (rows others : List Row) (k : ℕ) (found : Option (ℕ × Row)) → Leads n rows others k found → k < n →
+pub leads_takes : (n : ℕ) (rows others : List Row) (k : ℕ) (found : Option (ℕ × ℕ)) → Leads n rows others k found → k < n →
     (get_or others k nothing).left < (get_or rows k nothing).left →
-    ((p : ℕ × Row) → found ≡ Some p → (get_or others k nothing).left < p.1.left) → Leads n rows others (k + 1) (Some (k, get_or others k nothing))
+    ((p : ℕ × ℕ) → found ≡ Some p → (get_or others k nothing).left < p.1) → Leads n rows others (k + 1) (Some (k, (get_or others k nothing).left))
 leads_takes n rows others k None q h longer below =
     let l = lefts rows in
     let o = lefts others in
-    let lt : at o k < at l k = omega (arith, left_at rows k, left_at others k) in
-    (h, nearest_takes n l o k n q (grind (arith, nat_tests)), refl)
+    let lt : at o k < at l k = omega (arith, left_at rows k, left_at others k) in (h, nearest_takes n l o k n q (grind (arith, nat_tests)), refl)
 leads_takes n rows others k (Some p) q h longer below =
     let l = lefts rows in
     let o = lefts others in
     let lt : at o k < at l k = omega (arith, left_at rows k, left_at others k) in
-    let less : at o k < at o p.0 = omega (arith, left_at others k, left_at others p.0, ap (λ (row : Row). row.left) q.2, below p refl) in
+    let less : at o k < at o p.0 = omega (arith, left_at others k, left_at others p.0, q.2, below p refl) in
     (h, nearest_takes n l o k p.0 q.1 (grind (arith, nat_tests)), refl)
 
-pub leads_keeps : (n : ℕ) (rows others : List Row) (k : ℕ) (found : Option (ℕ × Row)) → Leads n rows others k found →
-    ((get_or others k nothing).left < (get_or rows k nothing).left →
-    (found ≢ None) × ((p : ℕ × Row) → found ≡ Some p → p.1.left ≤ (get_or others k nothing).left)) → Leads n rows others (k + 1) found
+pub leads_keeps : (n : ℕ) (rows others : List Row) (k : ℕ) (found : Option (ℕ × ℕ)) → Leads n rows others k found →
+    ((get_or others k nothing).left < (get_or rows k nothing).left → (found ≢ None) × ((p : ℕ × ℕ) → found ≡ Some p → p.1 ≤ (get_or others k nothing).left)) →
+    Leads n rows others (k + 1) found
 leads_keeps n rows others k None q kept =
     let l = lefts rows in
     let o = lefts others in
     let le : at l k ≤ at o k = elim (cases_lt (at o k) (at l k)) [
       | inl lt ↦ absurd ((kept (omega (arith, left_at rows k, left_at others k))).0 refl)
       | inr le ↦ le
-    ] in
-    nearest_keeps n l o k n q (grind (arith, nat_tests))
+    ] in nearest_keeps n l o k n q (grind (arith, nat_tests))
 leads_keeps n rows others k (Some p) q kept =
     let l = lefts rows in
     let o = lefts others in
     let above : at o k < at l k → at o p.0 ≤ at o k = λ lt.
-    omega (arith, left_at others k, left_at others p.0, ap (λ (row : Row). row.left) q.2, (kept (omega (arith, left_at rows k, left_at others k))).1 p refl) in
+    omega (arith, left_at others k, left_at others p.0, q.2, (kept (omega (arith, left_at rows k, left_at others k))).1 p refl) in
     (q.0, nearest_keeps n l o k p.0 q.1 (grind (arith, nat_tests)), q.2)
 
 -- m is, of the persons below k whose offer is below what they have left, one with the least offer; or it is n, and there is none.

@@ -1,5 +1,5 @@
 -- The search from its start to its end.
-use Rattle.std.proofs.Common.{◌≡◌, ℕ, zero, suc, ◌+◌, ◌-◌, ◌<◌, ◌≤◌, cond, eqb, ltb, List, map, length, take, set, replicate, sym, refl, ap, ◌∙◌, subst, inl, inr, arith, get_or-set_other, get_or-set_same, unwrap_or}
+use Rattle.std.proofs.Common.{◌≡◌, ℕ, zero, suc, ◌+◌, ◌-◌, ◌<◌, ◌≤◌, cond, eqb, ltb, List, map, length, get_or, take, set, replicate, sym, refl, ap, ◌∙◌, subst, inl, inr, arith, get_or-set_other, get_or-set_same}
 use Rattle.std.specs.List.{range_with_len}
 use Rattle.std.proofs.lemmas.List.{length-take-le, take-take, get_or-take, get_or-replicate, length-replicate}
 use Rattle.std.proofs.lemmas.Bool.{cases_eq, eq-eqb, ne_eqb, cond-true, cond-false}
@@ -11,7 +11,7 @@ use Rattle.longest.specs.Run.{Offers, offers, through, first_offers, State, stat
 use Rattle.longest.specs.View.{lefts, befores, offered, standing}
 use Rattle.longest.specs.declared.Row.{Row}
 use Rattle.longest.proofs.Nearest.{Next, next, nothing_longer, Taken}
-use Rattle.longest.proofs.Views.{left_at, lefts_long, before_at, lefts_set, befores_set}
+use Rattle.longest.proofs.Views.{nothing, left_at, lefts_long, before_at, lefts_set, befores_set}
 use Rattle.longest.proofs.Growth.{Offered, Grown, lower, through_wide, through_whence, fewer, grows}
 
 module _ (n : ℕ) (s : ℕ → ℕ → ℕ) (u : List ℕ) (fits : n ≤ length u) where
@@ -92,33 +92,35 @@ module _ (s : ℕ → ℕ → ℕ) (n r : ℕ) (x y : State) (e : run s n (n - r
   unfolding run
   run_all h = let d : n - r ≡ 0 = omega arith in ap (λ t. run s n t x) (sym d) ∙ e
 
--- A round on rows: the person `to` takes the offer, which leaves least.
-module _ (n : ℕ) (rows others : List Row) (to : ℕ) (offer : Row) (t : Taken n rows others to offer) where
+-- A round on rows: the person `to` takes the offer made, which leaves the least, `rest`.
+module _ (n : ℕ) (rows others : List Row) (to rest : ℕ) (t : Taken n rows others to rest) where
   next_is : Next n (lefts rows) (lefts others) to
   next_is = subst (λ j. Next n (lefts rows) (lefts others) j) t.1 (next n (lefts rows) (lefts others) (λ z. omega (arith, t.0, t.1)))
 
-  offer_left : offer.left ≡ at (lefts others) to
-  offer_left = ap (λ (row : Row). row.left) t.2 ∙ left_at others to
+  rest_is : rest ≡ at (lefts others) to
+  rest_is = t.2 ∙ left_at others to
 
-  pub offer_small : (c : ℕ) → ((i : ℕ) → i < n → at (lefts rows) i ≤ c) → offer.left ≤ c
-  offer_small c all = omega (arith, offer_left, all to t.0, next_is.longer)
+  pub rest_small : (c : ℕ) → ((i : ℕ) → i < n → at (lefts rows) i ≤ c) → rest ≤ c
+  rest_small c all = omega (arith, rest_is, all to t.0, next_is.longer)
 
-  pub left_small : (c : ℕ) → length rows ≡ n → ((i : ℕ) → i < n → at (lefts rows) i ≤ c) → (i : ℕ) → i < n → at (lefts (set rows to offer)) i ≤ c
-  left_small c e all i h = rw lefts_set (elim (cases_eq i to) [
-    | inl z ↦ subst (λ j. at (set (lefts rows) to offer.left) j ≤ c) (sym z)
-        (omega (arith, get_or-set_same (lefts rows) to offer.left 0 (omega (arith, t.0, lefts_long rows)), offer_small c all))
-    | inr z ↦ omega (arith, get_or-set_other (lefts rows) to i offer.left 0 z, all i h)
-  ])
+  pub left_small : (c : ℕ) → length rows ≡ n → ((i : ℕ) → i < n → at (lefts rows) i ≤ c) → (i : ℕ) → i < n → at (lefts (set rows to (get_or others to nothing))) i ≤ c
+  left_small c e all i h =
+      let offer = (get_or others to nothing).left in
+      rw lefts_set (elim (cases_eq i to) [
+        | inl z ↦ subst (λ j. at (set (lefts rows) to offer) j ≤ c) (sym z)
+            (omega (arith, get_or-set_same (lefts rows) to offer 0 (omega (arith, t.0, lefts_long rows)), rest_small c all, t.2))
+        | inr z ↦ omega (arith, get_or-set_other (lefts rows) to i offer 0 z, all i h)
+      ])
 
   pub round_more : (s : ℕ → ℕ → ℕ) (r m : ℕ) (y : State) (after : List Row) → length others ≡ n → run s n (n - r) (standing rows others m) ≡ y → m ≡ r → r < n →
-      offered after ≡ through s n to offer.left (offered others) → run s n (n - (r + 1)) (standing (set rows to offer) after (r + 1)) ≡ y
+      offered after ≡ through s n to rest (offered others) → run s n (n - (r + 1)) (standing (set rows to (get_or others to nothing)) after (r + 1)) ≡ y
   unfolding lengthened
   round_more s r m y after lo e em h eo =
       let go = λ (x : State). run s n (n - (r + 1)) x in
-      let l = lefts_set rows to offer ∙ ap (λ x. set (lefts rows) to x) offer_left in
-      let b = befores_set rows to offer ∙ ap (λ x. set (befores rows) to x)
-      (ap (λ (row : Row). unwrap_or row.before nobody) t.2 ∙ before_at others to (omega (arith, t.0))) in
-      ap (λ x. go (state (lefts (set rows to offer)) (befores (set rows to offer)) x (r + 1))) (eo ∙ ap (λ x. through s n to x (offered others)) offer_left)
+      let offer = get_or others to nothing in
+      let l = lefts_set rows to offer ∙ ap (set (lefts rows) to) (left_at others to) in
+      let b = befores_set rows to offer ∙ ap (set (befores rows) to) (before_at others to (omega (arith, t.0))) in
+      ap (λ x. go (state (lefts (set rows to offer)) (befores (set rows to offer)) x (r + 1))) (eo ∙ ap (λ x. through s n to x (offered others)) rest_is)
       ∙ ap (λ x. go (state x (befores (set rows to offer)) (through s n to (at (lefts others) to) (offered others)) (r + 1))) l
       ∙ ap (λ x. go (state (set (lefts rows) to (at (lefts others) to)) x (through s n to (at (lefts others) to) (offered others)) (r + 1))) b
       ∙ ap (λ j. go (state (set (lefts rows) to (at (lefts others) to)) (set (befores rows) to (at (befores others) to)) (through s n to (at (lefts others) to) (offered others)) (j + 1))) (sym em)

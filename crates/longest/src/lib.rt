@@ -244,19 +244,17 @@ impl Ways<'_> {
     {
         let mut rounds = 0;
         'longer: for round in 0..self.n {
-            let mut next: Option<(usize, Row)> = None;
+            let mut next: Option<(usize, u64)> = None;
             for (i, offer) in offers.iter().enumerate() {
-                if offer.left < rows[i].left
-                    && next.is_none_or(|(_, least)| offer.left < least.left)
-                {
-                    next = Some((i, *offer));
+                if offer.left < rows[i].left && next.is_none_or(|(_, least)| offer.left < least) {
+                    next = Some((i, offer.left));
                 }
             }
-            let Some((to, offer)) = next else {
+            let Some((to, rest)) = next else {
                 break 'longer;
             };
-            rows[to] = offer;
-            self.offer_through(to, offer.left, offers);
+            rows[to] = offers[to];
+            self.offer_through(to, rest, offers);
             rounds = round + 1;
         }
         rounds

@@ -1,13 +1,10 @@
 -- A table that is written line by line.
-use Rattle.std.proofs.Common.{◌≡◌, ℕ, ◌+◌, ◌-◌, ◌*◌, ◌<◌, ◌≤◌, List, ◌++◌, map, length, take, drop, ap, ◌∙◌, inl, inr, suc-mul, arith, length-drop, length-take}
-use Rattle.std.specs.List.{range_with_len}
+use Rattle.std.proofs.Common.{◌≡◌, ℕ, ◌+◌, ◌-◌, ◌*◌, ◌<◌, ◌≤◌, List, ◌++◌, length, take, drop, ◌∙◌, inl, inr, suc-mul, arith, length-drop, length-take}
 use Rattle.std.proofs.lemmas.Nat.{mul-le}
 use Rattle.std.proofs.lemmas.Bool.{cases_lt}
 use Rattle.std.proofs.lemmas.List.{get_or_append_left, get_or-append_right, get_or-take, length-take-le}
-use Rattle.std.proofs.lemmas.List.FromFn.{get_or-map-range_with_len}
-use Rattle.rooms.specs.House.{House, worth_at}
 use Rattle.assignment.specs.Search.{at}
-use Rattle.longest.specs.Run.{in_table, slack}
+use Rattle.longest.specs.Run.{in_table}
 
 -- The first m lines hold s.
 abbrev pub Filled : ℕ → (ℕ → ℕ → ℕ) → ℕ → List ℕ → Type 0
@@ -33,12 +30,6 @@ filled_more n s m table line rest h l here below k i hk hi =
           let d : m * n + k - m * n ≡ k = omega arith in
           rw q (get_or-append_right (take (m * n) table) (line ++ rest) (m * n) (m * n + k) 0 e (omega arith) ∙ rw d (get_or_append_left line rest 0 k (omega arith) ∙ here k hk))
     ]
-
--- A line as it was written.
-pub line_is : (h : House) (room u v mine line : List ℕ) (i m : ℕ) → ((r : ℕ) → at mine r ≡ worth_at h i r) →
-    line ≡ map (λ k. at u i + at v (at room k) - at mine (at room k)) (range_with_len 0 m) → (k : ℕ) → k < m → at line k ≡ slack h room u v k i
-line_is h room u v mine line i m each e k l =
-    rw e (get_or-map-range_with_len {X = ℕ} _ 0 m k k 0 l (omega arith) ∙ ap (λ w. at u i + at v (at room k) - w) (each (at room k)))
 
 pub line_length : (a n : ℕ) (xs : List ℕ) → a + n ≤ length xs → length (take (a + n - a) (drop a xs)) ≡ n
 line_length a n xs h = simp (length-take, length-drop) (omega arith)

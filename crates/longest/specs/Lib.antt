@@ -1,3 +1,4 @@
 pub mod Run
 pub mod View
+pub mod Held
 pub mod Promise

@@ -10,7 +10,7 @@ ghost use Rattle.rooms.specs.Before.{RowsShown};
 ghost use Rattle.rooms.specs.View.{house};
 ghost use Rattle.assignment.specs.Search.{at};
 ghost use Rattle.rooms.specs.Before.{nobody};
-ghost use Rattle.longest.specs.Run.{slack, in_table, Table, through, first_offers, run, start};
+ghost use Rattle.longest.specs.Run.{in_table, Table, through, first_offers, run, start};
 ghost use Rattle.longest.specs.View.{lefts, befores, offered, standing};
 ghost use Rattle.assignment.specs.Promise.{Solved};
 ghost use Rattle.longest.specs.Promise.{work_len, Found, SearchEnds, SameRun, OneLongest};
@@ -21,7 +21,7 @@ use rooms::group::MOST_PEOPLE;
 #[cfg(test)]
 mod tests;
 
-// Stands for nobody before a person.
+// Stands for nobody before a person: a sheet's byte, of which the search knows nothing.
 pub const NOBODY: u8 = 255;
 
 // How many numbers of work n people take.
@@ -77,7 +77,7 @@ pub fn rows_stand()
 {}
 
 // A sharing of highest joint worth, with numbers that show it best.
-#[derive(Clone, Copy)]
+#[derive(Drop)]
 struct Best<'a> {
     group: Group<'a>,
     rooms: &'a [u32],
@@ -95,23 +95,19 @@ struct Ways<'a> {
 }
 
 // A row that ends at a person: what it leaves of their number, and who stands before them.
-#[derive(Clone, Copy)]
+#[derive(Clone, Copy, Default)]
 struct Row {
     left: u64,
     before: Option<u8>,
 }
 
-const NO_ROW: Row = Row {
-    left: 0,
-    before: None,
-};
-
 impl Best<'_> {
+    ghost use Rattle.longest.specs.Held.{people, slack_by};
+
     // One person's line of the table: the slack of the way to them from each person, by what each room is worth to them.
     fn write_slacks(&self, i: usize, line: &mut [u64])
-        requires { (i < (house self.now.group).n) × (length line.old ≡ (house self.now.group).n) }
-        ensures { (k : ℕ) → k < (house self.now.group).n
-            → at line.new k ≡ slack (house self.now.group) self.now.rooms.now self.now.persons self.now.prices k i }
+        requires { (i < people self.now) × (length line.old ≡ people self.now) }
+        ensures { (k : ℕ) → k < people self.now → at line.new k ≡ slack_by self.now k i }
     {
         let mine = self.group.row(i);
         let number = self.persons[i];
@@ -123,10 +119,9 @@ impl Best<'_> {
 
     // The table of slacks, a line for each person.
     fn write_table(&self, table: &mut [u64])
-        requires { length table.old ≡ (house self.now.group).n * (house self.now.group).n }
-        ensures { (k i : ℕ) → k < (house self.now.group).n → i < (house self.now.group).n
-            → in_table table.new (house self.now.group).n k i
-            ≡ slack (house self.now.group) self.now.rooms.now self.now.persons self.now.prices k i }
+        requires { length table.old ≡ people self.now * people self.now }
+        ensures { (k i : ℕ) → k < people self.now → i < people self.now
+            → in_table table.new (people self.now) k i ≡ slack_by self.now k i }
     {
         let n = self.group.count();
         // a person's line of the table is lent on to be written
@@ -137,15 +132,15 @@ impl Best<'_> {
 
     // The longest rows, on a table of just the right length.
     fn longest(&self, table: &mut [u64]) -> LongestRows
-        requires { length table.old ≡ (house self.now.group).n * (house self.now.group).n }
+        requires { length table.old ≡ people self.now * people self.now }
         ensures { Found (house self.now.group) self.now.rooms.now self.now.persons self.now.prices result.d result.before result.rounds }
     {
         self.write_table(table);
         let n = self.group.count();
         let ways = Ways { n, slacks: table };
-        let mut people = [NO_ROW; MOST_PEOPLE];
-        let mut offers = [NO_ROW; MOST_PEOPLE];
-        let rows = &mut people[0..n];
+        let mut all = [Row::default(); MOST_PEOPLE];
+        let mut offers = all;
+        let rows = &mut all[0..n];
         stand_alone(&self.persons[0..n], rows);
         let rounds = ways.search(rows, &mut offers[0..n]);
         LongestRows {
@@ -196,10 +191,12 @@ fn befores(rows: &[Row]) -> [u8; MOST_PEOPLE]
 }
 
 impl Ways<'_> {
+    ghost use Rattle.longest.specs.Held.{slack_in};
+
     // The slack of the way from person k to person i.
     fn slack(&self, k: usize, i: usize) -> u64
         requires { (k < self.now.n) × (i < self.now.n) }
-        ensures value { result ≡ in_table self.now.slacks.now self.now.n k i }
+        ensures value { result ≡ slack_in self.now k i }
         ensures small { result ≤ 2 * most_worth }
     {
         self.slacks[i * self.n + k]
@@ -208,7 +205,7 @@ impl Ways<'_> {
     // Everybody takes the row through person k, which leaves `rest` to k, where it leaves less than their best offer.
     fn offer_through(&self, k: usize, rest: u64, offers: &mut [Row])
         requires { (length offers.old ≡ self.now.n) × (k < self.now.n) × (rest ≤ most_worth) }
-        ensures { offered offers.new ≡ through (in_table self.now.slacks.now self.now.n) self.now.n k rest (offered offers.old) }
+        ensures { offered offers.new ≡ through (slack_in self.now) self.now.n k rest (offered offers.old) }
     {
         for (i, offer) in offers.iter_mut().enumerate() {
             let left = rest + self.slack(k, i);
@@ -227,7 +224,7 @@ impl Ways<'_> {
         requires alone { befores rows.now ≡ replicate self.now.n nobody }
         requires small { (i : ℕ) → i < self.now.n → at (lefts rows.now) i ≤ most_worth }
         ensures { offered offers.new
-            ≡ first_offers (in_table self.now.slacks.now self.now.n) self.now.n (lefts rows.now) self.now.n }
+            ≡ first_offers (slack_in self.now) self.now.n (lefts rows.now) self.now.n }
     {
         offers.copy_from_slice(rows);
         for (k, row) in rows.iter().enumerate() {
@@ -240,7 +237,7 @@ impl Ways<'_> {
         requires sizes { (length rows.old ≡ self.now.n) × (length offers.old ≡ self.now.n) }
         requires small { (i : ℕ) → i < self.now.n → at (lefts rows.old) i ≤ most_worth }
         ensures { standing rows.new offers.new result
-            ≡ run (in_table self.now.slacks.now self.now.n) self.now.n self.now.n (standing rows.old offers.old 0) }
+            ≡ run (slack_in self.now) self.now.n self.now.n (standing rows.old offers.old 0) }
     {
         let mut rounds = 0;
         'longer: for round in 0..self.n {
@@ -266,8 +263,8 @@ impl Ways<'_> {
         requires alone { befores rows.old ≡ replicate self.now.n nobody }
         requires small { (i : ℕ) → i < self.now.n → at (lefts rows.old) i ≤ most_worth }
         ensures { standing rows.new offers.new result
-            ≡ run (in_table self.now.slacks.now self.now.n) self.now.n self.now.n
-            (start (in_table self.now.slacks.now self.now.n) self.now.n (lefts rows.old)) }
+            ≡ run (slack_in self.now) self.now.n self.now.n
+            (start (slack_in self.now) self.now.n (lefts rows.old)) }
     {
         self.first_offers(rows, offers);
         self.lengthen(rows, offers)

@@ -1,4 +1,3 @@
-mod Put
 mod Sums
 mod Near
 mod Swap

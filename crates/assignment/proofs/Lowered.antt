@@ -1,20 +1,19 @@
--- What the loop that lowers the numbers of persons writes.
-use Rattle.std.proofs.Common.{◌≡◌, ℕ, ◌-◌, ◌<◌, ◌≤◌, ◌≢◌, List, length, set, sym, refl, ◌∙◌, ⊎_elim, arith, length-set, get_or-set_other, get_or-set_same}
-use Rattle.std.proofs.lemmas.Bool.{cases_order, lt-ltb, le-ltb, eq-eqb, ne_eqb, cond-true, cond-false}
+-- What the loop that lowers the numbers of persons writes: those before p's, and then p's.
+use Rattle.std.proofs.Common.{◌≡◌, ℕ, ◌-◌, ◌<◌, List, [], ◌∷◌, ◌++◌, length, set, ⊎_elim, arith}
+use Rattle.std.proofs.lemmas.Bool.{cases_order, lt-ltb, le-ltb, eq-eqb, ne_eqb}
+use Rattle.std.proofs.lemmas.Grind.{common_steps}
 use Rattle.std.proofs.lemmas.List.FromFn.{fill_by_all}
 use Rattle.assignment.specs.Search.{at}
 use Rattle.assignment.specs.Run.{lowered_at, lowered}
 
-pub lowered_all : (n p d : ℕ) (b room u x : List ℕ) → length x ≡ n → p < n →
-    ((k : ℕ) → k < p → at x k ≡ at u k - (d - at b (at room k))) → ((k : ℕ) → p ≤ k → at x k ≡ at u k) →
-    set x p (at x p - d) ≡ lowered n p d b room u
-lowered_all n p d b room u x lx hp below rest =
-    fill_by_all (lowered_at p d b room u) _ n 0 (length-set x p _ ∙ lx)
+pub lowered_all : (p d : ℕ) (b room u before after new : List ℕ) → u ≡ before ++ after → length before ≡ p → length new ≡ p → 0 < length after →
+    ((k : ℕ) → k < p → at new k ≡ at before k - (d - at b (at room k))) → new ++ set after 0 (at after 0 - d) ≡ lowered (length u) p d b room u
+lowered_all p d b room u before [] new e lb ln la h = absurd (omega arith)
+lowered_all p d b room u before (x ∷ rest) new e lb ln la h =
+    fill_by_all (lowered_at p d b room u) _ (length u) 0 (grind (arith, common_steps))
     (λ k l. ⊎_elim
-    (λ (e : k ≡ p). let lp : p < length x = omega arith in
-    rw (e, get_or-set_same) (rw (rest p (omega arith)) (sym (cond-false _ _ _ (le-ltb p p (omega arith)) ∙ cond-true _ _ _ (eq-eqb p p refl)))))
+    (λ (q : k ≡ p). grind (arith, common_steps, le-ltb p p, eq-eqb p p))
     (⊎_elim
-    (λ (h : k < p). let ne : k ≢ p = omega arith in rw get_or-set_other (below k h ∙ sym (cond-true _ _ _ (lt-ltb k p h))))
-    (λ (h : p < k). let ne : k ≢ p = omega arith in
-    rw get_or-set_other (rest k (omega arith) ∙ sym (cond-false _ _ _ (le-ltb k p (omega arith)) ∙ cond-false _ _ _ (ne_eqb k p ne)))))
+    (λ (q : k < p). grind (arith, common_steps, lt-ltb k p, h k))
+    (λ (q : p < k). grind (arith, common_steps, le-ltb k p, ne_eqb k p)))
     (cases_order k p))

@@ -1,18 +1,19 @@
 -- A round, and all rounds, on lists.
-use Rattle.std.proofs.Common.{◌≡◌, ℕ, zero, suc, ◌+◌, ◌*◌, ◌<◌, ◌≤◌, List, length, refl, ap, ◌∙◌, ⊎_elim, add-one, arith}
+use Rattle.std.proofs.Common.{◌≡◌, ℕ, zero, suc, ◌+◌, ◌*◌, ◌<◌, ◌≤◌, List, length, replicate, refl, ap, ◌∙◌, ⊎_elim, add-one, arith}
 use Rattle.std.specs.List.{range_with_len, swap}
 use Rattle.std.proofs.lemmas.Bool.{cases_eq, lt-ltb, le-ltb, eq-eqb, ne_eqb, cond-true, cond-false}
 use Rattle.std.proofs.lemmas.Nat.{mul-le}
 use Rattle.std.proofs.lemmas.List.FromFn.{fill_by_all, length-range_with_len, get_or-range_with_len}
 use Rattle.std.proofs.lemmas.List.{map-id}
 use Rattle.std.proofs.lemmas.List.Edits.{Swapped, swapped_from_swap, length-swap}
-use Rattle.assignment.specs.Search.{at, list_of, Tree, tree_of}
+use Rattle.assignment.specs.Search.{at, Tree, tree_of}
 use Rattle.assignment.specs.Run.{raised, lowered_at, lowered, Rooms, held, swapped, handed, State, state, round_tree, round_of, looks_in, beginning, after, sum_of, looks_to}
 use Rattle.assignment.specs.Between.{Placed, Stands}
 use Rattle.assignment.proofs.Invariant.{Moved, Handing}
 use Rattle.assignment.proofs.Chain.{chain_none, chain_under, chain_more, chain_all}
 use Rattle.assignment.proofs.Moved.{moved}
 use Rattle.assignment.proofs.Growth.{at_list, long_list, Grew, grew}
+use Rattle.assignment.proofs.Row.{filled}
 use Rattle.assignment.proofs.Sums.{sum_most}
 
 pub swapped_list : (xs : List ℕ) (a b : ℕ) → a < length xs → b < length xs → Swapped (at xs) (at (swap xs a b)) a b
@@ -134,16 +135,12 @@ pub round_count : (W : ℕ → ℕ → ℕ) (n p : ℕ) (u v room holder : List 
 unfolding looks_in
 round_count W n p u v room holder g e = ap (λ (x : Tree). x.joined * n) e
 
--- The beginning, from what is written at each place.
-pub beginning_is : (n H : ℕ) (u v room holder : List ℕ) → length u ≡ n → length v ≡ n → length room ≡ n → length holder ≡ n →
-    ((k : ℕ) → k < n → at u k ≡ H) → ((k : ℕ) → k < n → at v k ≡ 0) → ((k : ℕ) → k < n → at room k ≡ k) → ((k : ℕ) → k < n → at holder k ≡ k) →
-    state u v room holder ≡ beginning n H
-beginning_is n H u v room holder lu lv lr lo hu hv hr ho =
-    let eu : u ≡ list_of (λ _. H) n = fill_by_all _ u n 0 lu hu in
-    let ev : v ≡ list_of (λ _. 0) n = fill_by_all _ v n 0 lv hv in
+-- The beginning, from what is written.
+pub beginning_is : (n H : ℕ) (u v room holder : List ℕ) → u ≡ replicate n H → v ≡ replicate n 0 → length room ≡ n → ((k : ℕ) → k < n → at room k ≡ k) →
+    holder ≡ room → state u v room holder ≡ beginning n H
+beginning_is n H u v room holder eu ev lr hr eo =
     let er : room ≡ range_with_len 0 n = fill_by_all _ room n 0 lr hr ∙ map-id _ in
-    let eo : holder ≡ range_with_len 0 n = fill_by_all _ holder n 0 lo ho ∙ map-id _ in
-    rw (eu, ev, er, eo) refl
+    rw (eu, ev, eo, er, filled n H, filled n 0) refl
 
 -- What the loop over the rounds keeps.
 pub record Going (n H : ℕ) (W : ℕ → ℕ → ℕ) (p : ℕ) (u v room holder : List ℕ) (looks : ℕ) : Type 0 where

@@ -85,8 +85,8 @@ fn write_rooms(room: &[u64], rooms: &mut [u32])
     requires { (length rooms.old ≡ length room.now) × (((i : ℕ) → i < length room.now → at room.now i < 2 ^ 32)) }
     ensures { rooms.new ≡ room.now }
 {
-    for i in 0..room.len() {
-        rooms[i] = room[i] as u32;
+    for (i, written) in rooms.iter_mut().enumerate() {
+        *written = room[i] as u32;
     }
 }
 

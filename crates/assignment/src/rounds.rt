@@ -12,31 +12,27 @@ use rooms::Group;
 use rooms::group::MOST_WORTH;
 
 // The numbers of rooms nearer than d rise by what they are nearer.
-fn raise(n: usize, d: u64, distance: &[u64], v: &mut [u64])
-    requires { (length distance.now ≡ n) × ((length v.old ≡ n) × ((d ≤ most_worth) × (((r : ℕ) → r < n → at v.old r ≤ most_worth)))) }
-    ensures { v.new ≡ raised n d distance.now v.old }
+fn raise(d: u64, distance: &[u64], v: &mut [u64])
+    requires { (length distance.now ≡ length v.old) × (d ≤ most_worth) × ((r : ℕ) → r < length v.old → at v.old r ≤ most_worth) }
+    ensures { v.new ≡ raised (length v.old) d distance.now v.old }
 {
-    for r in 0..n {
-        if distance[r] < d {
-            v[r] += d - distance[r];
-        }
+    for (r, price) in v.iter_mut().enumerate() {
+        *price += d.saturating_sub(distance[r]);
     }
 }
 
 // The numbers of placed persons fall as their rooms rise, and p's falls by d.
-fn lower(n: usize, p: usize, d: u64, distance: &[u64], room: &[u64], u: &mut [u64])
-    requires sizes { (length distance.now ≡ n) × ((length room.now ≡ n) × ((length u.old ≡ n) × (p < n))) }
-    requires rooms { (i : ℕ) → i < n → at room.now i < n }
-    requires fits { (((i : ℕ) → i < p → d ≤ at distance.now (at room.now i) + at u.old i)) × (d ≤ at u.old p) }
-    ensures { u.new ≡ lowered n p d distance.now room.now u.old }
+fn lower(p: usize, d: u64, distance: &[u64], room: &[u64], u: &mut [u64])
+    requires sizes { (length distance.now ≡ length u.old) × (length room.now ≡ length u.old) × (p < length u.old) }
+    requires rooms { (i : ℕ) → i < length u.old → at room.now i < length u.old }
+    requires fits { ((i : ℕ) → i < p → d ≤ at distance.now (at room.now i) + at u.old i) × (d ≤ at u.old p) }
+    ensures { u.new ≡ lowered (length u.old) p d distance.now room.now u.old }
 {
-    for i in 0..p {
-        let b = distance[room[i] as usize];
-        if b < d {
-            u[i] -= d - b;
-        }
+    let (placed, rest) = u.split_at_mut(p);
+    for (i, number) in placed.iter_mut().enumerate() {
+        *number -= d.saturating_sub(distance[room[i] as usize]);
     }
-    u[p] -= d;
+    rest[0] -= d;
 }
 
 // Persons a and b exchange rooms.
@@ -90,8 +86,8 @@ fn round(
         group, n, p, u, v, room, holder, rows, distance, parent, reached,
     );
     let d = distance[last];
-    raise(n, d, distance, v);
-    lower(n, p, d, distance, room, u);
+    raise(d, distance, v);
+    lower(p, d, distance, room, u);
     let q = holder[last] as usize;
     exchange(n, room, holder, p, q);
     augment(n, p, parent, room, holder);
@@ -103,12 +99,12 @@ fn begin(n: usize, u: &mut [u64], v: &mut [u64], room: &mut [u64], holder: &mut 
     requires { (length u.old ≡ n) × ((length v.old ≡ n) × ((length room.old ≡ n) × (length holder.old ≡ n))) }
     ensures { state u.new v.new room.new holder.new ≡ beginning n most_worth }
 {
-    for i in 0..n {
-        u[i] = MOST_WORTH as u64;
-        v[i] = 0;
-        room[i] = i as u64;
-        holder[i] = i as u64;
+    u.fill(u64::from(MOST_WORTH));
+    v.fill(0);
+    for (i, own) in room.iter_mut().enumerate() {
+        *own = i as u64;
     }
+    holder.copy_from_slice(room);
 }
 
 // All rounds. The count of looks.

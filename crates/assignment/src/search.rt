@@ -1,9 +1,9 @@
 // The search of one round: from a person, by shortest ways, to the nearest room that nobody placed holds.
-ghost use Rattle.std.specs.Prelude.{◌≡◌, ℕ, ◌+◌, ◌-◌, ◌*◌, ◌<◌, ◌≤◌, length};
+ghost use Rattle.std.specs.Prelude.{◌≡◌, ℕ, ◌+◌, ◌-◌, ◌*◌, ◌<◌, ◌≤◌, length, IfSome};
 ghost use Rattle.rooms.specs.House.{worth_at};
 ghost use Rattle.rooms.specs.Format.{most_people, most_worth};
 ghost use Rattle.rooms.specs.View.{house};
-ghost use Rattle.assignment.specs.Search.{at, list_of, offers, with_row, nearer, parents, is_closer, nearest_of, tree, tree_of};
+ghost use Rattle.assignment.specs.Search.{at, list_of, offers, with_row, nearer, parents, is_first, nearest_of, tree, tree_of};
 ghost use Rattle.assignment.specs.Run.{state};
 ghost use Rattle.assignment.specs.Between.{Ready, Stands};
 
@@ -16,8 +16,8 @@ fn offer(mine: [u32; MOST_PEOPLE], base: u64, v: &[u64], row: &mut [u64])
     requires covered { (((r : ℕ) → r < length v.now → at mine r ≤ base + at v.now r)) × (((r : ℕ) → r < length v.now → at v.now r ≤ most_worth)) }
     ensures { row.new ≡ list_of (λ r. base + at v.now r - at mine r) (length v.now) }
 {
-    for r in 0..v.len() {
-        row[r] = base + v[r] - mine[r] as u64;
+    for (r, offer) in row.iter_mut().enumerate() {
+        *offer = base + v[r] - u64::from(mine[r]);
     }
 }
 
@@ -27,9 +27,9 @@ fn merge(row: &[u64], i: usize, distance: &mut [u64], parent: &mut [u64])
     ensures near { distance.new ≡ nearer (length row.now) row.now distance.old }
     ensures by { parent.new ≡ parents (length row.now) i row.now distance.old parent.old }
 {
-    for r in 0..row.len() {
-        if row[r] < distance[r] {
-            distance[r] = row[r];
+    for (r, offer) in row.iter().enumerate() {
+        if *offer < distance[r] {
+            distance[r] = *offer;
             parent[r] = i as u64;
         }
     }
@@ -86,28 +86,28 @@ fn start(
     reached.fill(0);
 }
 
-// Whether room r is to be taken rather than near, which is n where there is none yet.
-fn closer(n: usize, distance: &[u64], reached: &[u64], near: usize, r: usize) -> bool
-    requires { (length distance.now ≡ n) × ((length reached.now ≡ n) × ((r < n) × (near ≤ n))) }
-    ensures { result ≡ is_closer n (at distance.now) (at reached.now) r near }
+// Whether room r is nearer than the one found so far, if there is one.
+fn is_nearer(distance: &[u64], r: usize, near: Option<usize>) -> bool
+    requires { (r < length distance.now) × IfSome near (λ a. a < length distance.now) }
+    ensures { result ≡ is_first (at distance.now) r near }
 {
-    reached[r] == 0 && (near == n || distance[r] < distance[near])
+    near.is_none_or(|a| distance[r] < distance[a])
 }
 
 // The nearest room that is not reached; there is one.
-fn nearest(n: usize, distance: &[u64], reached: &[u64]) -> usize
-    requires sizes { (length distance.now ≡ n) × (length reached.now ≡ n) }
-    requires some { (q : ℕ) × (q < n) × (at reached.now q ≡ 0) }
-    ensures model { result ≡ nearest_of n (at distance.now) (at reached.now) n }
-    ensures here { result < n }
+fn nearest(distance: &[u64], reached: &[u64]) -> usize
+    requires sizes { length distance.now ≡ length reached.now }
+    requires some { (q : ℕ) × (q < length reached.now) × (at reached.now q ≡ 0) }
+    ensures model { result ≡ nearest_of (length reached.now) (at distance.now) (at reached.now) (length reached.now) }
+    ensures here { result < length reached.now }
 {
-    let mut near = n;
-    for r in 0..n {
-        if closer(n, distance, reached, near, r) {
-            near = r;
+    let mut near = None;
+    for (r, turn) in reached.iter().enumerate() {
+        if *turn == 0 && is_nearer(distance, r, near) {
+            near = Some(r);
         }
     }
-    near
+    near.unwrap()
 }
 
 // The tree of round p grows to the nearest room that nobody placed holds. That room, and how many persons joined.
@@ -133,7 +133,7 @@ pub fn grow(
 {
     start(group, n, u, v, p, rows, distance, parent, reached);
     for k in 0..n {
-        let r = nearest(n, distance, reached);
+        let r = nearest(distance, reached);
         reached[r] = k as u64 + 1;
         let i = holder[r] as usize;
         if i >= p {

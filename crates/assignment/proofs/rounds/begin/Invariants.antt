@@ -1,9 +1,6 @@
 use Rattle.std.proofs.Common.{◌≡◌, ℕ, ◌<◌}
-use Rattle.rooms.specs.Format.{most_worth}
 use Rattle.assignment.specs.Search.{at}
 use Rattle.assignment.proofs.rounds.begin.Given as goal
 
 abbrev pub invariant-loop-i : goal.invariant-loop-i
-invariant-loop-i l =
-    ((k : ℕ) → k < l.i → at l.u k ≡ most_worth) × ((k : ℕ) → k < l.i → at l.v k ≡ 0)
-    × ((k : ℕ) → k < l.i → at l.room k ≡ k) × ((k : ℕ) → k < l.i → at l.holder k ≡ k)
+invariant-loop-i l = (k : ℕ) → k < l.i → at l.room k ≡ k

@@ -3,4 +3,6 @@ use Rattle.assignment.proofs.Lowered.{lowered_all}
 use Rattle.assignment.proofs.rounds.lower.Goals as goal
 
 pub returns : goal.returns
-returns c = lowered_all c.args.n c.args.p c.args.d c.args.distance.now c.args.room.now c.args.u.now c.loop-i.u (omega arith) (omega arith) (λ k l. c.loop-i.invariant.0 k (omega arith)) (λ k l. c.loop-i.invariant.1 k (omega arith))
+returns c =
+    lowered_all _ _ c.args.distance.now c.args.room.now _ _ _ _ c.split_at_mut-placed.ensures.value c.split_at_mut-placed.ensures.front_len (omega arith) (omega arith)
+    (λ k l. c.loop-i.invariant.0 k (omega arith))

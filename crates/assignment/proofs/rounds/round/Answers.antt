@@ -10,16 +10,19 @@ pub raise-requires : goal.raise-requires
 raise-requires c =
     let pl = c.requires.stands.placed in
     let gr = grew_by c.requires.people.1.1 pl c.grow-last.ensures.model in
-    let x = pl.dual.persons c.args.p c.requires.people.1.1 in
-    (omega arith, (c.requires.stands.long_prices, (omega (arith, own_fits {m = c.grow-last.result.0} c.requires.people.1.1 pl gr.ended), pl.dual.prices)))
+    let x = pl.dual.persons c.args.p c.requires.people.1.1 in (
+      omega (arith, c.requires.stands.long_prices),
+      omega (arith, own_fits {m = c.grow-last.result.0} c.requires.people.1.1 pl gr.ended),
+      rw c.requires.stands.long_prices pl.dual.prices,
+    )
 
 pub lower-requires : goal.lower-requires
 lower-requires c =
     let pl = c.requires.stands.placed in
     let gr = grew_by c.requires.people.1.1 pl c.grow-last.ensures.model in
     record {
-      sizes = (omega arith, (c.requires.stands.long_room, (c.requires.stands.long_persons, c.requires.people.1.1)));
-      rooms = pl.held.into;
+      sizes = (omega (arith, c.requires.stands.long_persons), omega (arith, c.requires.stands.long_room, c.requires.stands.long_persons), omega (arith, c.requires.stands.long_persons));
+      rooms = rw c.requires.stands.long_persons pl.held.into;
       fits = (down_fits {m = c.grow-last.result.0} c.requires.people.1.1 pl gr.ended, own_fits {m = c.grow-last.result.0} c.requires.people.1.1 pl gr.ended);
     }
 
@@ -49,6 +52,6 @@ overflow_mul-result c =
 
 pub returns : goal.returns
 returns c = record {
-  model = round_is _ _ _ _ _ _ _ _ _ _ _ _ c.grow-last.ensures.model c.raise.ensures c.lower.ensures c.exchange.ensures c.augment.ensures;
+  model = round_is _ _ _ _ _ _ _ _ _ _ _ _ c.grow-last.ensures.model (rw c.requires.stands.long_prices at c.raise.ensures) (rw c.requires.stands.long_persons at c.lower.ensures) c.exchange.ensures c.augment.ensures;
   count = round_count _ _ _ _ _ _ _ _ c.grow-last.ensures.model;
 }

@@ -1,6 +1,6 @@
-use Rattle.std.proofs.Common.{◌≡◌, ◌≤◌}
-use Rattle.assignment.specs.Search.{at, nearest_of}
+use Rattle.std.proofs.Common.{◌≡◌}
+use Rattle.assignment.specs.Search.{at, nearest_in}
 use Rattle.assignment.proofs.search.nearest.Given as goal
 
 abbrev pub invariant-loop-r : goal.invariant-loop-r
-invariant-loop-r l = (l.near ≤ l.n) × (l.near ≡ nearest_of l.n (at l.distance) (at l.reached) l.r)
+invariant-loop-r l = l.near ≡ nearest_in (at l.distance) (at l.reached) l.r

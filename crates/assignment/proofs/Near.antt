@@ -1,15 +1,24 @@
 -- The nearest room that is not reached.
-use Rattle.std.proofs.Common.{◌≡◌, ℕ, zero, suc, ◌+◌, ◌<◌, ◌≤◌, Bool, true, false, cond, ◌⊎◌, sym, refl, ap, inl, inr, ⊎_elim, add-one, arith}
-use Rattle.std.proofs.lemmas.Bool.{cases_eq, ne_eqb}
+use Rattle.std.proofs.Common.{◌≡◌, ℕ, zero, suc, ◌+◌, ◌<◌, ◌≤◌, List, length, Some, Bool, true, false, cond, ◌⊎◌, sym, refl, ◌∙◌, inl, inr, ⊎_elim, add-one, arith}
+use Rattle.std.proofs.lemmas.Bool.{cases_eq, cases_lt, lt-ltb, cond-true, cond-false}
 use Rattle.std.proofs.lemmas.Bool.Decides.{nat_tests}
-use Rattle.std.specs.Prelude.{Option, None, Some, MatchOption, IfSome, ◌==◌, ◌&&◌, ◌||◌, nat_lt}
-use Rattle.assignment.specs.Search.{is_closer, nearest_of, is_first, nearest_in}
+use Rattle.std.proofs.lemmas.List.Quantifiers.{position-Some}
+use Rattle.std.proofs.lemmas.List.Sums.{fails_before_first}
+use Rattle.std.specs.Prelude.{position, ◌==◌}
+use Rattle.std.specs.Option.{IsSome}
+use Rattle.std.specs.List.{position_or_len}
+use Rattle.assignment.specs.Search.{at, is_closer, nearest_of}
 
 -- Room m is a nearest one of those that are not reached.
 pub record Nearest (n : ℕ) (b s : ℕ → ℕ) (m : ℕ) : Type 0 where
   pub here : m < n
   pub fresh : s m ≡ 0
   pub least : (t : ℕ) → t < n → s t ≡ 0 → b m ≤ b t
+
+-- One more turn of the loop.
+pub nearest_more : (n : ℕ) (b s : ℕ → ℕ) (k a : ℕ) → a ≡ nearest_of n b s k → nearest_of n b s (k + 1) ≡ cond (is_closer n b s k a) k a
+unfolding nearest_of
+nearest_more n b s k a e = rw (add-one, e)
 
 -- What is known after the first k rooms: all are reached and m is n, or m is a nearest of them.
 abbrev SoFar : ℕ → (ℕ → ℕ) → (ℕ → ℕ) → ℕ → ℕ → Type 0
@@ -40,51 +49,56 @@ nearest_is n b s q h z =
     (λ (x : (nearest_of n b s n < n) × (s (nearest_of n b s n) ≡ 0) × ((r : ℕ) → r < n → s r ≡ 0 → b (nearest_of n b s n) ≤ b r)). record { here = x.0; fresh = x.1; least = x.2 })
     (near_so n b s n (omega arith))
 
--- The option is that number, where there is one.
-abbrev Same : ℕ → ℕ → Option ℕ → ℕ → Type 0
-Same n k near m = MatchOption near (m ≡ n) (λ a. (a < k) × (m ≡ a))
+-- What the loop keeps, which begins at the first room that is not reached: near is the nearest of the first k rooms, or none of them is fresh and near is
+-- the first that is.
+pub record Nearing (n : ℕ) (b s : ℕ → ℕ) (k m : ℕ) : Type 0 where
+  pub here : m < n
+  pub fresh : s m ≡ 0
+  pub so_far : ((m < k) × (nearest_of n b s k ≡ m)) ⊎ ((k ≤ m) × (nearest_of n b s k ≡ n) × ((r : ℕ) → r < m → 0 < s r))
 
-same_test : (n : ℕ) (b : ℕ → ℕ) (k : ℕ) (near : Option ℕ) (m : ℕ) → k < n → Same n k near m → is_first b k near ≡ (m == n || nat_lt (b k) (b m))
-same_test n b k None m h x = grind (arith, nat_tests)
-same_test n b k (Some a) m h x = grind (arith, nat_tests)
+-- There is a first one.
+pub first_some : (xs : List ℕ) (q : ℕ) → q < length xs → at xs q ≡ 0 → IsSome (position (λ x. x == 0) xs)
+first_some xs q l z =
+    ⊎_elim
+    (λ (h : position_or_len (λ x. x == 0) xs < length xs). rw (lt-ltb _ _ h) refl)
+    (λ (h : length xs ≤ position_or_len (λ x. x == 0) xs). absurd (grind (arith, nat_tests, fails_before_first (λ x. x == 0) xs q 0)))
+    (cases_lt (position_or_len (λ x. x == 0) xs) (length xs))
 
-same_step : (n k : ℕ) (t : Bool) (near : Option ℕ) (m : ℕ) → Same n k near m → Same n (suc k) (cond t (Some k) near) (cond t k m)
-same_step n k true near m x = (omega arith, refl)
-same_step n k false None m x = x
-same_step n k false (Some a) m x = (omega arith, x.1)
+pub nearing_none : (b : ℕ → ℕ) (xs : List ℕ) (m : ℕ) → position (λ x. x == 0) xs ≡ Some m → Nearing (length xs) b (at xs) 0 m
+unfolding nearest_of
+nearing_none b xs m e =
+    let f = position-Some (λ x. x == 0) xs m 0 e in
+    record { here = f.0; fresh = grind (arith, nat_tests, f.1); so_far = inr (omega arith, refl, λ r l. grind (arith, nat_tests, f.2 r l)) }
 
-same : (n : ℕ) (b s : ℕ → ℕ) (k : ℕ) → k ≤ n → Same n k (nearest_in b s k) (nearest_of n b s k)
-unfolding nearest_in nearest_of
-same n b s zero h = refl
-same n b s (suc k) h =
-    let x = same n b s k (omega arith) in
-    rw (same_test n b k (nearest_in b s k) (nearest_of n b s k) (omega arith) x) (same_step n k _ _ _ x)
-
-pub near_all : (n : ℕ) (b s : ℕ → ℕ) (k q : ℕ) (near : Option ℕ) → near ≡ nearest_in b s k → k ≡ n → q < n → s q ≡ 0 → near ≡ Some (nearest_of n b s n)
-near_all n b s k q near e l h z = go near (rw (e, l) (same n b s n (omega arith)))
-  where
-    go : (x : Option ℕ) → Same n n x (nearest_of n b s n) → x ≡ Some (nearest_of n b s n)
-    go None x = absurd (omega (arith, (nearest_is n b s q h z).here))
-    go (Some a) x = ap Some (sym x.1)
-
--- A bound on the option, and one more turn of its loop: room k is taken, is no nearer, or is reached.
-pub near_below : (n : ℕ) (b s : ℕ → ℕ) (k : ℕ) (near : Option ℕ) → k ≤ n → near ≡ nearest_in b s k → IfSome near (λ a. a < n)
-near_below n b s k None h e = tt
-near_below n b s k (Some a) h e = let x = rw (← e) at (same n b s k h) in omega arith
-
-module _ (b s : ℕ → ℕ) (k : ℕ) (near : Option ℕ) (e : near ≡ nearest_in b s k) where
-  pub near_taken : s k ≡ 0 → is_first b k near ≡ true → Some k ≡ nearest_in b s (k + 1)
-  unfolding nearest_in
-  near_taken z t = rw (add-one, ← e, z, t) refl
-
-  pub near_farther : is_first b k near ≡ false → near ≡ nearest_in b s (k + 1)
-  unfolding nearest_in
-  near_farther t = rw (add-one, ← e, t, neither (s k == 0)) refl
+module _ (n : ℕ) (b s : ℕ → ℕ) (k m : ℕ) (h : k < n) (g : Nearing n b s k m) where
+  pub nearing_taken : s k ≡ 0 → b k < b m → Nearing n b s (k + 1) k
+  nearing_taken z l = record { here = h; fresh = z; so_far = inl (omega arith, nearest_more n b s k _ refl ∙ cond-true _ _ _ (closer g.so_far)) }
     where
-      neither : (z : Bool) → z && false ≡ false
-      neither true = refl
-      neither false = refl
+      closer : ((m < k) × (nearest_of n b s k ≡ m)) ⊎ ((k ≤ m) × (nearest_of n b s k ≡ n) × ((r : ℕ) → r < m → 0 < s r)) → is_closer n b s k (nearest_of n b s k) ≡ true
+      closer (inl x) = grind (arith, nat_tests)
+      closer (inr x) = grind (arith, nat_tests)
 
-  pub near_reached : (s k ≡ 0 → ⊥) → near ≡ nearest_in b s (k + 1)
-  unfolding nearest_in
-  near_reached ne = rw (add-one, ← e, ne_eqb (s k) 0 ne) refl
+  pub nearing_kept : (s k ≡ 0 → b m ≤ b k) → Nearing n b s (k + 1) m
+  nearing_kept l = record { here = g.here; fresh = g.fresh; so_far = go g.so_far }
+    where
+      go : ((m < k) × (nearest_of n b s k ≡ m)) ⊎ ((k ≤ m) × (nearest_of n b s k ≡ n) × ((r : ℕ) → r < m → 0 < s r)) →
+          ((m < k + 1) × (nearest_of n b s (k + 1) ≡ m)) ⊎ ((k + 1 ≤ m) × (nearest_of n b s (k + 1) ≡ n) × ((r : ℕ) → r < m → 0 < s r))
+      go (inl x) =
+          let t : is_closer n b s k (nearest_of n b s k) ≡ false = grind (arith, nat_tests, g.here) in
+          inl (omega arith, nearest_more n b s k _ refl ∙ cond-false _ _ _ t ∙ x.1)
+      go (inr x) = ⊎_elim
+          (λ (q : k ≡ m).
+          let t : is_closer n b s k (nearest_of n b s k) ≡ true = grind (arith, nat_tests, g.fresh) in
+          inl (omega arith, nearest_more n b s k _ refl ∙ cond-true _ _ _ t ∙ q))
+          (λ (q : k ≡ m → ⊥).
+          let t : is_closer n b s k (nearest_of n b s k) ≡ false = grind (arith, nat_tests, x.2 k) in
+          inr (omega arith, nearest_more n b s k _ refl ∙ cond-false _ _ _ t ∙ x.1, x.2))
+          (cases_eq k m)
+
+pub nearing_all : (n : ℕ) (b s : ℕ → ℕ) (k m : ℕ) → k ≡ n → Nearing n b s k m → m ≡ nearest_of n b s n
+nearing_all n b s k m e g =
+    let h = g.here in
+    ⊎_elim
+    (λ (x : (m < k) × (nearest_of n b s k ≡ m)). sym (rw e at x.1))
+    (λ (x : (k ≤ m) × (nearest_of n b s k ≡ n) × ((r : ℕ) → r < m → 0 < s r)). absurd (omega arith))
+    g.so_far

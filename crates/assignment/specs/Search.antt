@@ -1,6 +1,6 @@
 -- How a round searches, step by step: from one person, by the nearest room each time, to a room that nobody placed holds. (The shortest paths of the
 -- Hungarian method; what comes of it is said in Promise.) Assumes nothing: these are definitions.
-use Rattle.std.specs.Prelude.{ℕ, zero, suc, ◌+◌, ◌-◌, ◌*◌, Bool, true, cond, Option, None, Some, ◌&&◌, ◌||◌, List, ◌++◌, map, take, drop, ◌==◌, nat_le, nat_lt, slice_index, slice_set}
+use Rattle.std.specs.Prelude.{ℕ, zero, suc, ◌+◌, ◌-◌, ◌*◌, Bool, cond, ◌&&◌, ◌||◌, List, ◌++◌, map, take, drop, ◌==◌, nat_le, nat_lt, slice_index, slice_set}
 use Rattle.std.specs.List.{range_with_len}
 
 -- What stands at place k of a list; nothing past its end.
@@ -39,15 +39,6 @@ is_closer n b s k a = s k == 0 && (a == n || nat_lt (b k) (b a))
 unfoldable pub nearest_of : ℕ → (b s : ℕ → ℕ) → ℕ → ℕ
 nearest_of n b s zero = n
 nearest_of n b s (suc k) = cond (is_closer n b s k (nearest_of n b s k)) k (nearest_of n b s k)
-
--- The same as an option, nothing where there is none: whether room k is nearer than the one found so far, and the nearest of the first k rooms.
-abbrev pub is_first : (ℕ → ℕ) → ℕ → Option ℕ → Bool
-is_first b k None = true
-is_first b k (Some a) = nat_lt (b k) (b a)
-
-unfoldable pub nearest_in : (b s : ℕ → ℕ) → ℕ → Option ℕ
-nearest_in b s zero = None
-nearest_in b s (suc k) = cond (s k == 0 && is_first b k (nearest_in b s k)) (Some k) (nearest_in b s k)
 
 -- Where a search ends: the room that nobody placed holds, how many persons joined, and for each room its distance, its parent and its turn, which is
 -- 0 where it is not reached.

@@ -1,9 +1,9 @@
 // The search of one round: from a person, by shortest ways, to the nearest room that nobody placed holds.
-ghost use Rattle.std.specs.Prelude.{◌≡◌, ℕ, ◌+◌, ◌-◌, ◌*◌, ◌<◌, ◌≤◌, length, IfSome};
+ghost use Rattle.std.specs.Prelude.{◌≡◌, ℕ, ◌+◌, ◌-◌, ◌*◌, ◌<◌, ◌≤◌, ◌==◌, length, position};
 ghost use Rattle.rooms.specs.House.{worth_at};
 ghost use Rattle.rooms.specs.Format.{most_people, most_worth};
 ghost use Rattle.rooms.specs.View.{house};
-ghost use Rattle.assignment.specs.Search.{at, list_of, offers, with_row, nearer, parents, is_first, nearest_of, tree, tree_of};
+ghost use Rattle.assignment.specs.Search.{at, list_of, offers, with_row, nearer, parents, nearest_of, tree, tree_of};
 ghost use Rattle.assignment.specs.Run.{state};
 ghost use Rattle.assignment.specs.Between.{Ready, Stands};
 
@@ -86,28 +86,27 @@ fn start(
     reached.fill(0);
 }
 
-// Whether room r is nearer than the one found so far, if there is one.
-fn is_nearer(distance: &[u64], r: usize, near: Option<usize>) -> bool
-    requires { (r < length distance.now) × IfSome near (λ a. a < length distance.now) }
-    ensures { result ≡ is_first (at distance.now) r near }
+// The first room that is not reached.
+fn first_fresh(reached: &[u64]) -> Option<usize>
+    ensures { result ≡ position (λ turn. turn == 0) reached.now }
 {
-    near.is_none_or(|a| distance[r] < distance[a])
+    reached.iter().position(|turn| *turn == 0)
 }
 
-// The nearest room that is not reached; there is one.
+// The nearest room that is not reached, of several as near the first; there is one.
 fn nearest(distance: &[u64], reached: &[u64]) -> usize
     requires sizes { length distance.now ≡ length reached.now }
     requires some { (q : ℕ) × (q < length reached.now) × (at reached.now q ≡ 0) }
     ensures model { result ≡ nearest_of (length reached.now) (at distance.now) (at reached.now) (length reached.now) }
     ensures here { result < length reached.now }
 {
-    let mut near = None;
+    let mut near = first_fresh(reached).unwrap();
     for (r, turn) in reached.iter().enumerate() {
-        if *turn == 0 && is_nearer(distance, r, near) {
-            near = Some(r);
+        if *turn == 0 && distance[r] < distance[near] {
+            near = r;
         }
     }
-    near.unwrap()
+    near
 }
 
 // The tree of round p grows to the nearest room that nobody placed holds. That room, and how many persons joined.

@@ -4,6 +4,9 @@ use Rattle.std.proofs.lemmas.Bool.{cases_lt, le-leb, lt-leb, cond-true, cond-fal
 use Rattle.std.proofs.lemmas.List.FromFn.{length-map-range_with_len, get_or-map-range_with_len}
 use Rattle.assignment.specs.Search.{at, list_of, offer_of, offers, nearer, parents, nearest_of, Tree, tree, grow_from, tree_of}
 use Rattle.assignment.specs.Between.{Placed}
+use Rattle.assignment.specs.declared.rounds.Standing.{Standing}
+use Rattle.assignment.specs.declared.search.Tree.{Tree as TreeSlices}
+use Rattle.assignment.specs.Slices.{Sized}
 use Rattle.assignment.proofs.Invariant.{Looked, Started, Grown, Marked, Ended}
 use Rattle.assignment.proofs.Near.{Nearest, nearest_is}
 use Rattle.assignment.proofs.Step.{grown_none, grown_more, grown_few}
@@ -134,3 +137,8 @@ module _ {n H : ℕ} {W : ℕ → ℕ → ℕ} {p : ℕ} {u v room holder : List
 
   pub growing_never : (b f s : List ℕ) (k : ℕ) → Growing n W p u v room holder b f s k → n ≤ k → ⊥
   growing_never b f s k g h = omega (arith, grown_few g.grown)
+
+-- The same of the slices, with their lengths.
+pub record GrowingTree (n : ℕ) (W : ℕ → ℕ → ℕ) (p : ℕ) (x : Standing) (t : TreeSlices) (k : ℕ) : Type 0 where
+  pub sized : Sized n t
+  pub growing : Growing n W p x.persons.now x.prices.now x.rooms.room.now x.rooms.holder.now t.distance.now t.parent.now t.turn.now k

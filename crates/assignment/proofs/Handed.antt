@@ -1,10 +1,12 @@
 -- Rooms handed on, one turn of the loop at a time.
-use Rattle.std.proofs.Common.{◌≡◌, ℕ, suc, ◌+◌, ◌-◌, ◌<◌, List, length, ap, arith}
+use Rattle.std.proofs.Common.{◌≡◌, ℕ, suc, ◌+◌, ◌-◌, ◌<◌, List, length, ap, ◌∙◌, arith}
 use Rattle.std.proofs.lemmas.Bool.{eq-eqb, ne_eqb, cond-true, cond-false}
-use Rattle.std.proofs.lemmas.List.Edits.{swapped_from_swap}
+use Rattle.std.proofs.lemmas.List.Edits.{swapped_from_swap, length-swap}
 use Rattle.assignment.specs.Search.{at}
 use Rattle.assignment.specs.Run.{Rooms, held, swapped, handed}
 use Rattle.assignment.specs.Between.{Held}
+use Rattle.assignment.specs.declared.rounds.Rooms.{Rooms as Lent}
+use Rattle.assignment.specs.Slices.{rooms_of, Holding}
 use Rattle.assignment.proofs.Swap.{held_swapped}
 
 pub handed_stop : (p : ℕ) (f : List ℕ) (n t : ℕ) (room holder : List ℕ) → t < n → at f (at room p) ≡ p → handed p f (n - t) (held room holder) ≡ held room holder
@@ -26,3 +28,10 @@ held_exchanged n room holder a b x lr lo ha hb he e =
     held_swapped n (at room) (at holder) (at x.room) (at x.holder) a b ha hb he
     (swapped_from_swap room x.room a b 0 (omega arith) (omega arith) (ap (λ (y : Rooms). y.room) e))
     (swapped_from_swap holder x.holder (at room a) (at room b) 0 (omega (arith, he.into a ha)) (omega (arith, he.into b hb)) (ap (λ (y : Rooms). y.holder) e))
+
+pub holding_exchanged : {n a b : ℕ} {x y : Lent} → a < n → b < n → Holding n x → rooms_of y ≡ swapped x.room.now x.holder.now a b → Holding n y
+holding_exchanged {n} {a} {b} {x} {y} ha hb h e = record {
+  held = held_exchanged n x.room.now x.holder.now a b (rooms_of y) h.long_room h.long_holder ha hb h.held e;
+  long_room = ap (λ (z : Rooms). length z.room) e ∙ length-swap x.room.now a b ∙ h.long_room;
+  long_holder = ap (λ (z : Rooms). length z.holder) e ∙ length-swap x.holder.now (at x.room.now a) (at x.room.now b) ∙ h.long_holder;
+}

@@ -136,11 +136,12 @@ unfolding looks_in
 round_count W n p u v room holder g e = ap (λ (x : Tree). x.joined * n) e
 
 -- The beginning, from what is written.
-pub beginning_is : (n H : ℕ) (u v room holder : List ℕ) → u ≡ replicate n H → v ≡ replicate n 0 → length room ≡ n → ((k : ℕ) → k < n → at room k ≡ k) →
-    holder ≡ room → state u v room holder ≡ beginning n H
-beginning_is n H u v room holder eu ev lr hr eo =
-    let er : room ≡ range_with_len 0 n = fill_by_all _ room n 0 lr hr ∙ map-id _ in
-    rw (eu, ev, eo, er, filled n H, filled n 0) refl
+pub counted_up : (n : ℕ) (xs : List ℕ) → length xs ≡ n → ((k : ℕ) → k < n → at xs k ≡ k) → xs ≡ range_with_len 0 n
+counted_up n xs l h = fill_by_all _ xs n 0 l h ∙ map-id _
+
+pub beginning_is : (n H : ℕ) (u v room holder : List ℕ) → u ≡ replicate n H → v ≡ replicate n 0 → room ≡ range_with_len 0 n → holder ≡ range_with_len 0 n →
+    state u v room holder ≡ beginning n H
+beginning_is n H u v room holder eu ev er eo = rw (eu, ev, er, eo, filled n H, filled n 0) refl
 
 -- What the loop over the rounds keeps.
 pub record Going (n H : ℕ) (W : ℕ → ℕ → ℕ) (p : ℕ) (u v room holder : List ℕ) (looks : ℕ) : Type 0 where

@@ -1,5 +1,6 @@
 pub mod Search
 pub mod Run
 pub mod Between
+pub mod Slices
 pub mod Answer
 pub mod Promise

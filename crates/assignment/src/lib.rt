@@ -17,7 +17,8 @@ mod search;
 #[cfg(test)]
 mod tests;
 
-use rounds::place_all;
+use rounds::{Rooms, Standing, place_all};
+use search::Tree;
 
 // What shows that a sharing is best: a number for each person and each room, 0 past the n of them; and how many looks were taken.
 #[derive(Clone, Copy)]
@@ -48,35 +49,44 @@ pub fn assign(group: &Group, rooms: &mut [u32], work: &mut [u64]) -> Assignment
 {
     let n = group.count();
     let wanted = work_len(n);
-    let found = solve(group, n, &mut rooms[0..n], &mut work[0..wanted]);
+    let found = solve(group, &mut rooms[0..n], &mut work[0..wanted]);
     work[0..wanted].fill(0);
     found
 }
 
 // The answer on slices of just the lengths wanted; work is cut into a row for each person and seven lists.
-fn solve(group: &Group, n: usize, rooms: &mut [u32], work: &mut [u64]) -> Assignment
-    requires people { (n ≡ (house group.now).n) × (Allowed (house group.now)) }
-    requires sizes { (length rooms.old ≡ n) × (length work.old ≡ work_for n) }
+fn solve(group: &Group, rooms: &mut [u32], work: &mut [u64]) -> Assignment
+    requires { (length rooms.old ≡ (house group.now).n) × (length work.old ≡ work_for (house group.now).n) }
     ensures sharing { rooms.new ≡ sharing_of (house group.now) }
     ensures persons { result.persons ≡ array_of (persons_of (house group.now)) }
     ensures prices { result.rooms ≡ array_of (prices_of (house group.now)) }
     ensures count { result.looks ≡ looks_of (house group.now) }
 {
+    let n = group.count();
     let (rows, rest) = work.split_at_mut(n * n);
-    let (u, rest) = rest.split_at_mut(n);
-    let (v, rest) = rest.split_at_mut(n);
+    let (persons, rest) = rest.split_at_mut(n);
+    let (prices, rest) = rest.split_at_mut(n);
     let (room, rest) = rest.split_at_mut(n);
     let (holder, rest) = rest.split_at_mut(n);
     let (distance, rest) = rest.split_at_mut(n);
-    let (parent, reached) = rest.split_at_mut(n);
-    let looks = place_all(
-        group, n, u, v, room, holder, rows, distance, parent, reached,
-    );
-    write_rooms(room, rooms);
+    let (parent, turn) = rest.split_at_mut(n);
+    let mut standing = Standing {
+        persons,
+        prices,
+        rooms: Rooms { room, holder },
+    };
+    let mut tree = Tree {
+        rows,
+        distance,
+        parent,
+        turn,
+    };
+    let looks = place_all(group, &mut standing, &mut tree);
+    write_rooms(standing.rooms.room, rooms);
     Assignment {
         looks,
-        persons: array(u),
-        rooms: array(v),
+        persons: array(standing.persons),
+        rooms: array(standing.prices),
     }
 }
 

@@ -3,12 +3,23 @@ ghost use Rattle.std.specs.Prelude.{◌≡◌, ℕ, ◌+◌, ◌-◌, ◌*◌, �
 ghost use Rattle.rooms.specs.House.{worth_at};
 ghost use Rattle.rooms.specs.Format.{most_people, most_worth};
 ghost use Rattle.rooms.specs.View.{house};
-ghost use Rattle.assignment.specs.Search.{at, list_of, offers, with_row, nearer, parents, nearest_of, tree, tree_of};
-ghost use Rattle.assignment.specs.Run.{state};
+ghost use Rattle.assignment.specs.Search.{at, list_of, offers, with_row, nearer, parents, nearest_of, tree_of};
+ghost use Rattle.assignment.specs.Slices.{state_of, Sized, tree_at};
 ghost use Rattle.assignment.specs.Between.{Ready, Stands};
 
+use super::rounds::Standing;
 use rooms::Group;
 use rooms::group::MOST_PEOPLE;
+
+// The tree of a round: a row of offers for each person who joined; and for each room its distance, its parent, and the turn at which it was reached,
+// which is 0 where it is not. A room's turn counts who had joined by then, and rooms are handed on to ever earlier turns.
+#[derive(Drop)]
+pub struct Tree<'a> {
+    pub rows: &'a mut [u64],
+    pub distance: &'a mut [u64],
+    pub parent: &'a mut [u64],
+    pub turn: &'a mut [u64],
+}
 
 // A person's row of offers: for each room the base and the room's number, above the worth.
 fn offer(mine: [u32; MOST_PEOPLE], base: u64, v: &[u64], row: &mut [u64])
@@ -35,111 +46,94 @@ fn merge(row: &[u64], i: usize, distance: &mut [u64], parent: &mut [u64])
     }
 }
 
-// Person i joins at distance d: their row is written, and taken where it is lower.
-fn relax(
-    group: &Group,
-    n: usize,
-    u: &[u64],
-    v: &[u64],
-    i: usize,
-    d: u64,
-    rows: &mut [u64],
-    distance: &mut [u64],
-    parent: &mut [u64],
-)
-    requires ready { (Ready n most_worth (worth_at (house group.now)) u.now v.now) × ((n ≡ (house group.now).n) × ((i < n) × (d ≤ 2 * most_worth))) }
-    requires sizes { (length rows.old ≡ n * n) × ((length distance.old ≡ n) × (length parent.old ≡ n)) }
-    ensures row { rows.new ≡ with_row n i rows.old (offers (worth_at (house group.now)) n u.now v.now i d) }
-    ensures near { distance.new ≡ nearer n (offers (worth_at (house group.now)) n u.now v.now i d) distance.old }
-    ensures by { parent.new ≡ parents n i (offers (worth_at (house group.now)) n u.now v.now i d) distance.old parent.old }
-{
-    let mine = group.row(i);
-    let row = &mut rows[i * n..i * n + n];
-    offer(mine, d + u[i], v, row);
-    merge(row, i, distance, parent);
-}
-
-// Person p joins first: their row is written, and is all that is known.
-fn start(
-    group: &Group,
-    n: usize,
-    u: &[u64],
-    v: &[u64],
-    p: usize,
-    rows: &mut [u64],
-    distance: &mut [u64],
-    parent: &mut [u64],
-    reached: &mut [u64],
-)
-    requires ready { (Ready n most_worth (worth_at (house group.now)) u.now v.now) × ((n ≡ (house group.now).n) × (p < n)) }
-    requires sizes { (length rows.old ≡ n * n) × ((length distance.old ≡ n) × ((length parent.old ≡ n) × (length reached.old ≡ n))) }
-    ensures row { rows.new ≡ with_row n p rows.old (offers (worth_at (house group.now)) n u.now v.now p 0) }
-    ensures near { distance.new ≡ offers (worth_at (house group.now)) n u.now v.now p 0 }
-    ensures by { parent.new ≡ list_of (λ _. p) n }
-    ensures fresh { reached.new ≡ list_of (λ _. 0) n }
-{
-    let mine = group.row(p);
-    let row = &mut rows[p * n..p * n + n];
-    offer(mine, u[p], v, row);
-    distance.copy_from_slice(row);
-    parent.fill(p as u64);
-    reached.fill(0);
-}
-
 // The first room that is not reached.
-fn first_fresh(reached: &[u64]) -> Option<usize>
-    ensures { result ≡ position (λ turn. turn == 0) reached.now }
+fn first_fresh(turn: &[u64]) -> Option<usize>
+    ensures { result ≡ position (λ t. t == 0) turn.now }
 {
-    reached.iter().position(|turn| *turn == 0)
+    turn.iter().position(|t| *t == 0)
 }
 
-// The nearest room that is not reached, of several as near the first; there is one.
-fn nearest(distance: &[u64], reached: &[u64]) -> usize
-    requires sizes { length distance.now ≡ length reached.now }
-    requires some { (q : ℕ) × (q < length reached.now) × (at reached.now q ≡ 0) }
-    ensures model { result ≡ nearest_of (length reached.now) (at distance.now) (at reached.now) (length reached.now) }
-    ensures here { result < length reached.now }
-{
-    let mut near = first_fresh(reached).unwrap();
-    for (r, turn) in reached.iter().enumerate() {
-        if *turn == 0 && distance[r] < distance[near] {
-            near = r;
-        }
+impl Tree<'_> {
+    // Person p joins first: their row is written, and is all that is known.
+    fn start(&mut self, group: &Group, p: usize, standing: &Standing)
+        requires person { p < (house group.now).n }
+        requires ready { Ready (house group.now).n most_worth (worth_at (house group.now)) standing.now.persons.now standing.now.prices.now }
+        requires sizes { Sized (house group.now).n self.old }
+        ensures row { self.new.rows.now
+            ≡ with_row (house group.now).n p self.old.rows.now (offers (worth_at (house group.now)) (house group.now).n standing.now.persons.now standing.now.prices.now p 0) }
+        ensures near { self.new.distance.now ≡ offers (worth_at (house group.now)) (house group.now).n standing.now.persons.now standing.now.prices.now p 0 }
+        ensures by { self.new.parent.now ≡ list_of (λ _. p) (house group.now).n }
+        ensures fresh { self.new.turn.now ≡ list_of (λ _. 0) (house group.now).n }
+        ensures sizes { Sized (house group.now).n self.new }
+    {
+        let n = group.count();
+        let mine = group.row(p);
+        let row = &mut self.rows[p * n..p * n + n];
+        offer(mine, standing.persons[p], standing.prices, row);
+        self.distance.copy_from_slice(row);
+        self.parent.fill(p as u64);
+        self.turn.fill(0);
     }
-    near
+
+    // Person i joins at distance d: their row is written, and taken where it is lower.
+    fn relax(&mut self, group: &Group, i: usize, d: u64, standing: &Standing)
+        requires person { (i < (house group.now).n) × (d ≤ 2 * most_worth) }
+        requires ready { Ready (house group.now).n most_worth (worth_at (house group.now)) standing.now.persons.now standing.now.prices.now }
+        requires sizes { Sized (house group.now).n self.old }
+        ensures row { self.new.rows.now
+            ≡ with_row (house group.now).n i self.old.rows.now (offers (worth_at (house group.now)) (house group.now).n standing.now.persons.now standing.now.prices.now i d) }
+        ensures near { self.new.distance.now
+            ≡ nearer (house group.now).n (offers (worth_at (house group.now)) (house group.now).n standing.now.persons.now standing.now.prices.now i d) self.old.distance.now }
+        ensures by { self.new.parent.now
+            ≡ parents (house group.now).n i (offers (worth_at (house group.now)) (house group.now).n standing.now.persons.now standing.now.prices.now i d) self.old.distance.now self.old.parent.now }
+        ensures turns { self.new.turn.now ≡ self.old.turn.now }
+        ensures sizes { Sized (house group.now).n self.new }
+    {
+        let n = group.count();
+        let mine = group.row(i);
+        let row = &mut self.rows[i * n..i * n + n];
+        offer(mine, d + standing.persons[i], standing.prices, row);
+        merge(row, i, self.distance, self.parent);
+    }
+
+    // The nearest room that is not reached, of several as near the first; there is one.
+    fn nearest(&self) -> usize
+        requires sizes { length self.now.distance.now ≡ length self.now.turn.now }
+        requires some { (q : ℕ) × (q < length self.now.turn.now) × (at self.now.turn.now q ≡ 0) }
+        ensures model { result ≡ nearest_of (length self.now.turn.now) (at self.now.distance.now) (at self.now.turn.now) (length self.now.turn.now) }
+        ensures here { result < length self.now.turn.now }
+    {
+        let mut near = first_fresh(self.turn).unwrap();
+        for (r, turn) in self.turn.iter().enumerate() {
+            if *turn == 0 && self.distance[r] < self.distance[near] {
+                near = r;
+            }
+        }
+        near
+    }
 }
 
-// The tree of round p grows to the nearest room that nobody placed holds. That room, and how many persons joined.
-pub fn grow(
-    group: &Group,
-    n: usize,
-    p: usize,
-    u: &[u64],
-    v: &[u64],
-    room: &[u64],
-    holder: &[u64],
-    rows: &mut [u64],
-    distance: &mut [u64],
-    parent: &mut [u64],
-    reached: &mut [u64],
-) -> (usize, u64)
-    requires people { (n ≡ (house group.now).n) × ((n ≤ most_people) × (p < n)) }
-    requires stands { Stands n most_worth (worth_at (house group.now)) p (state u.now v.now room.now holder.now) }
-    requires sizes { (length rows.old ≡ n * n) × ((length distance.old ≡ n) × ((length parent.old ≡ n) × (length reached.old ≡ n))) }
-    ensures here { (result.0 < n) × (result.1 ≤ p + 1) }
-    ensures model { tree result.0 result.1 distance.new parent.new reached.new
-        ≡ tree_of (worth_at (house group.now)) n p u.now v.now holder.now }
+// The tree of round p grows to the nearest room that nobody placed holds, which is answered; its turn counts the persons who joined.
+pub fn grow(group: &Group, p: usize, standing: &Standing, tree: &mut Tree) -> usize
+    requires person { p < (house group.now).n }
+    requires stands { Stands (house group.now).n most_worth (worth_at (house group.now)) p (state_of standing.now) }
+    requires sizes { Sized (house group.now).n tree.old }
+    ensures here { (result < (house group.now).n) × (at tree.new.turn.now result ≤ p + 1) }
+    ensures model { tree_at result tree.new
+        ≡ tree_of (worth_at (house group.now)) (house group.now).n p standing.now.persons.now standing.now.prices.now standing.now.rooms.holder.now }
+    ensures sizes { Sized (house group.now).n tree.new }
 {
-    start(group, n, u, v, p, rows, distance, parent, reached);
+    let n = group.count();
+    tree.start(group, p, standing);
     for k in 0..n {
-        let r = nearest(distance, reached);
-        reached[r] = k as u64 + 1;
-        let i = holder[r] as usize;
+        let r = tree.nearest();
+        tree.turn[r] = k as u64 + 1;
+        let i = standing.rooms.holder[r] as usize;
         if i >= p {
-            return (r, k as u64 + 1);
+            return r;
         }
-        let d = distance[r];
-        relax(group, n, u, v, i, d, rows, distance, parent);
+        let d = tree.distance[r];
+        tree.relax(group, i, d, standing);
     }
     unreachable()
 }

@@ -1,26 +1,34 @@
 use Rattle.std.proofs.Common.{◌≡◌, arith}
+use Rattle.rooms.specs.Format.{house_of}
 use Rattle.assignment.proofs.Whole.{going_none, going_more, going_low}
 use Rattle.assignment.proofs.rounds.place_all.Goals as goal
 
+pub begin-requires : goal.begin-requires
+begin-requires c = rw c.requires.lists.long_persons c.requires.lists
+
 pub loop-p-init : goal.loop-p-init
-loop-p-init c = going_none _ _ _ (λ i r _ _. c.requires.people.1.small i r) _ _ _ _ c.begin.ensures
+loop-p-init c = (
+  going_none _ _ _ (λ i r _ _. c.count-p-end.ensures.allowed.small i r) _ _ _ _ (rw c.requires.lists.long_persons at c.begin.ensures),
+  c.requires.sizes,
+)
 
 pub round-looks-requires : goal.round-looks-requires
-round-looks-requires c = record {
-  people = (c.requires.people.0, (c.requires.people.1, c.loop-p-test.true));
-  stands = c.loop-p.invariant.stands;
-  sizes = (omega arith, (omega arith, (omega arith, omega arith)));
-}
+round-looks-requires c = record { person = omega arith; stands = c.loop-p.invariant.0.stands; sizes = c.loop-p.invariant.1 }
 
 pub loop-p-preserved : goal.loop-p-preserved
-loop-p-preserved c =
-    going_more _ _ _ (λ i r _ _. c.requires.people.1.small i r) _ _ _ _ _ _ _ _ _ _ _ c.loop-p-test.true c.loop-p.invariant
-    c.round-looks.ensures.model c.round-looks.ensures.count
+loop-p-preserved c = (
+  going_more _ _ _ (λ i r _ _. c.count-p-end.ensures.allowed.small i r) _ _ _ _ _ _ _ _ _ _ _ (omega arith) c.loop-p.invariant.0 c.round-looks.ensures.model
+      c.round-looks.ensures.count,
+  c.round-looks.ensures.sizes,
+)
 
 pub overflow_add-looks : goal.overflow_add-looks
-overflow_add-looks c = omega (arith, going_low _ _ _ (λ i r _ _. c.requires.people.1.small i r) _ _ _ _ _ _ _ (omega (arith, c.requires.people.1.few)) c.loop-p-test.true c.loop-p.invariant c.round-looks.ensures.count)
+overflow_add-looks c =
+    let al = c.count-p-end.ensures.allowed in
+    omega (arith, going_low _ _ _ (λ i r _ _. al.small i r) _ _ _ _ _ _ _ (omega (arith, al.few)) (omega arith) c.loop-p.invariant.0 c.round-looks.ensures.count)
 
 pub returns : goal.returns
 returns c =
-    let q : c.loop-p.p ≡ c.args.n = omega arith in
-    record { model = rw q at c.loop-p.invariant.model; count = rw q at c.loop-p.invariant.count; stands = rw q at c.loop-p.invariant.stands }
+    let q : c.loop-p.p ≡ (house_of c.args.group.now.bytes.now).n = omega arith in
+    let g = rw q at c.loop-p.invariant.0 in
+    record { model = g.model; count = g.count; stands = g.stands }

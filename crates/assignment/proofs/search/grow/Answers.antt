@@ -1,44 +1,65 @@
-use Rattle.std.proofs.Common.{◌≡◌, ◌<◌, length, refl, arith}
+use Rattle.std.proofs.Common.{◌≡◌, ◌+◌, ◌<◌, length, set, refl, ◌∙◌, arith, length-set, get_or-set_same}
+use Rattle.rooms.specs.Format.{house_of}
+use Rattle.assignment.specs.Search.{at, nearest_of}
 use Rattle.assignment.proofs.Growth.{growing_none, growing_fresh, growing_stop, growing_more, growing_never}
 use Rattle.assignment.proofs.Step.{grown_few}
 use Rattle.assignment.proofs.search.grow.Goals as goal
 
+pub start-requires : goal.start-requires
+start-requires c =
+    let st = c.requires.stands in
+    record {
+      person = c.requires.person;
+      ready = record { few = c.count-n.ensures.allowed.few; long_persons = st.long_persons; long_prices = st.long_prices; dual = st.placed.dual };
+      sizes = c.requires.sizes;
+    }
+
 pub loop-k-init : goal.loop-k-init
-loop-k-init c = growing_none c.requires.people.1.1 c.requires.stands.placed _ _ _ c.start.ensures.near c.start.ensures.by c.start.ensures.fresh
+loop-k-init c = record {
+  sized = c.start.ensures.sizes;
+  growing = growing_none c.requires.person c.requires.stands.placed _ _ _ c.start.ensures.near c.start.ensures.by c.start.ensures.fresh;
+}
 
 pub nearest-r-requires : goal.nearest-r-requires
 nearest-r-requires c =
-    let q : length c.loop-k.reached ≡ c.args.n = omega arith in
-    record { sizes = omega arith; some = rw q (growing_fresh c.requires.people.1.1 c.requires.stands.placed _ _ _ _ c.loop-k.invariant) }
+    let s = c.loop-k.invariant.sized in
+    record { sizes = omega arith; some = rw s.long_turn (growing_fresh c.requires.person c.requires.stands.placed _ _ _ _ c.loop-k.invariant.growing) }
 
 pub returns-then-i-p : goal.returns-then-i-p
 returns-then-i-p c =
-    let q : length c.loop-k.reached ≡ c.args.n = omega arith in
+    let s = c.loop-k.invariant.sized in
+    let g = c.loop-k.invariant.growing in
+    let h : c.nearest-r.result < (house_of c.args.group.now.bytes.now).n = omega (arith, s.long_turn, c.nearest-r.ensures.here) in
+    let here = c.nearest-r.ensures.here in
+    let t : at (set c.loop-k.tree.turn.now c.nearest-r.result (c.loop-k.k + 1)) c.nearest-r.result ≡ c.loop-k.k + 1 = rw get_or-set_same in
     record {
-      here = (omega arith, omega (arith, grown_few c.loop-k.invariant.grown));
-      model = growing_stop c.requires.people.1.1 c.requires.stands.placed _ _ _ _ _ c.loop-k.invariant c.loop-k-test.true (rw q at c.nearest-r.ensures.model) c.if-i-p.true;
+      here = (h, omega (arith, t, grown_few g.grown));
+      model = rw t (growing_stop c.requires.person c.requires.stands.placed _ _ _ _ _ g (omega arith) (rw s.long_turn at c.nearest-r.ensures.model) c.if-i-p.true);
+      sizes = record { long_rows = s.long_rows; long_distance = s.long_distance; long_parent = s.long_parent; long_turn = length-set _ _ _ ∙ s.long_turn };
     }
 
 pub relax-requires : goal.relax-requires
 relax-requires c =
-    let pl = c.requires.stands.placed in
-    let h : c.nearest-r.result < c.args.n = omega arith in
-    let b = c.loop-k.invariant.grown.near c.nearest-r.result h in
-    let x = pl.dual.persons c.args.p c.requires.people.1.1 in
-    let y = pl.dual.prices c.nearest-r.result h in
+    let st = c.requires.stands in
+    let s = c.loop-k.invariant.sized in
+    let h : c.nearest-r.result < (house_of c.args.group.now.bytes.now).n = omega (arith, s.long_turn, c.nearest-r.ensures.here) in
+    let b = c.loop-k.invariant.growing.grown.near c.nearest-r.result h in
+    let x = st.placed.dual.persons c.args.p c.requires.person in
+    let y = st.placed.dual.prices c.nearest-r.result h in
     record {
-      ready = (
-        record { few = c.requires.people.1.0; long_persons = c.requires.stands.long_persons; long_prices = c.requires.stands.long_prices; dual = pl.dual },
-        (c.requires.people.0, (omega arith, omega arith)),
-      );
-      sizes = (omega arith, (omega arith, omega arith));
+      person = (omega arith, omega arith);
+      ready = record { few = c.count-n.ensures.allowed.few; long_persons = st.long_persons; long_prices = st.long_prices; dual = st.placed.dual };
+      sizes = record { long_rows = s.long_rows; long_distance = s.long_distance; long_parent = s.long_parent; long_turn = length-set _ _ _ ∙ s.long_turn };
     }
 
 pub loop-k-preserved : goal.loop-k-preserved
 loop-k-preserved c =
-    let q : length c.loop-k.reached ≡ c.args.n = omega arith in
-    growing_more c.requires.people.1.1 c.requires.stands.placed _ _ _ _ _ _ _ _ c.loop-k.invariant c.loop-k-test.true (omega arith)
-    (rw q at c.nearest-r.ensures.model) c.if-i-p.false refl c.relax.ensures.near c.relax.ensures.by
+    let s = c.loop-k.invariant.sized in
+    record {
+      sized = c.relax.ensures.sizes;
+      growing = rw c.relax.ensures.turns (growing_more c.requires.person c.requires.stands.placed _ _ _ _ _ _ _ _ c.loop-k.invariant.growing (omega arith) s.long_turn
+          (rw s.long_turn at c.nearest-r.ensures.model) c.if-i-p.false refl c.relax.ensures.near c.relax.ensures.by);
+    }
 
 pub unreachable-requires : goal.unreachable-requires
-unreachable-requires c = growing_never c.requires.people.1.1 c.requires.stands.placed _ _ _ _ c.loop-k.invariant (omega arith)
+unreachable-requires c = growing_never c.requires.person c.requires.stands.placed _ _ _ _ c.loop-k.invariant.growing (omega arith)

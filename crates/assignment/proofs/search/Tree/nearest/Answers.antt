@@ -1,7 +1,7 @@
 use Rattle.std.proofs.Common.{◌∙◌, sym, arith}
 use Rattle.assignment.proofs.Near.{first_some, nearing_none, nearing_taken, nearing_kept, nearing_all}
-use Rattle.assignment.proofs.search.nearest.Goals as goal
-use Rattle.assignment.proofs.search.nearest.Goals.{then-turn-eq0+then-distance-r, else-turn-eq0, else-turn-eq0-via-then-turn-eq0+else-distance-r, else-turn-eq0-via-else-turn-eq0}
+use Rattle.assignment.proofs.search.Tree.nearest.Goals as goal
+use Rattle.assignment.proofs.search.Tree.nearest.Goals.{then-turn-eq0+then-self-r, else-turn-eq0, else-turn-eq0-via-then-turn-eq0+else-self-r, else-turn-eq0-via-else-turn-eq0}
 
 pub loop-r-init : goal.loop-r-init
 loop-r-init c = nearing_none _ _ _ (sym c.first_fresh.ensures ∙ c.unwrap-near.ensures)
@@ -9,9 +9,9 @@ loop-r-init c = nearing_none _ _ _ (sym c.first_fresh.ensures ∙ c.unwrap-near.
 pub loop-r-preserved : goal.loop-r-preserved
 loop-r-preserved c =
     elim c.if-turn-eq0.branch [
-      | then-turn-eq0+then-distance-r w ↦ rw w.near-is (nearing_taken _ _ _ _ _ (omega arith) c.loop-r.invariant w.if-turn-eq0.true w.if-distance-r.true)
+      | then-turn-eq0+then-self-r w ↦ rw w.near-is (nearing_taken _ _ _ _ _ (omega arith) c.loop-r.invariant w.if-turn-eq0.true w.if-self-r.true)
       | else-turn-eq0 w ↦ rw w.near-is (nearing_kept _ _ _ _ _ (omega arith) c.loop-r.invariant (elim w.else-turn-eq0.branch [
-        | else-turn-eq0-via-then-turn-eq0+else-distance-r x ↦ λ z. x.if-distance-r.false
+        | else-turn-eq0-via-then-turn-eq0+else-self-r x ↦ λ z. x.if-self-r.false
         | else-turn-eq0-via-else-turn-eq0 x ↦ λ z. absurd (x.if-turn-eq0.false z)
       ]))
     ]

@@ -3,7 +3,7 @@
 #![tactic(auto)]
 
 ghost use Rattle.std.specs.Prelude.{◌≡◌, ℕ, ◌+◌, ◌*◌, ◌^◌, ◌<◌, ◌≤◌, ◌++◌, length, drop, replicate};
-ghost use Rattle.rooms.specs.Format.{most_people, most_worth, Allowed};
+ghost use Rattle.rooms.specs.Format.{most_people, most_worth};
 ghost use Rattle.rooms.specs.View.{house};
 ghost use Rattle.assignment.specs.Search.{at};
 ghost use Rattle.assignment.specs.Answer.{sharing_of, persons_of, prices_of, round_looks, looks_of, array_of, work_for};
@@ -92,7 +92,7 @@ fn solve(group: &Group, rooms: &mut [u32], work: &mut [u64]) -> Assignment
 
 // The room of each person, written out.
 fn write_rooms(room: &[u64], rooms: &mut [u32])
-    requires { (length rooms.old ≡ length room.now) × (((i : ℕ) → i < length room.now → at room.now i < 2 ^ 32)) }
+    requires { (length rooms.old ≡ length room.now) × ((i : ℕ) → i < length room.now → at room.now i < 2 ^ 32) }
     ensures { rooms.new ≡ room.now }
 {
     for (i, written) in rooms.iter_mut().enumerate() {

@@ -2,7 +2,7 @@
 ghost use Rattle.std.specs.Prelude.{◌≡◌, ℕ, ◌+◌, ◌-◌, ◌*◌, ◌<◌, ◌≤◌, length};
 ghost use Rattle.std.specs.List.{range_with_len};
 ghost use Rattle.rooms.specs.House.{worth_at};
-ghost use Rattle.rooms.specs.Format.{most_worth, Allowed};
+ghost use Rattle.rooms.specs.Format.{most_worth};
 ghost use Rattle.rooms.specs.View.{house};
 ghost use Rattle.assignment.specs.Search.{at};
 ghost use Rattle.assignment.specs.Run.{raised, lowered, swapped, handed, round_of, looks_in, beginning, after, looks_to};
@@ -13,7 +13,7 @@ use super::search::{Tree, grow};
 use rooms::Group;
 use rooms::group::MOST_WORTH;
 
-// Who holds which room, and who holds each. Persons who are not placed yet hold rooms too.
+// Who holds which room, and who holds each, in slices of the lent work, whose numbers are u64. Persons who are not placed yet hold rooms too.
 #[derive(Drop)]
 pub struct Rooms<'a> {
     pub room: &'a mut [u64],
@@ -57,23 +57,23 @@ impl Rooms<'_> {
 }
 
 // The numbers of rooms nearer than d rise by what they are nearer.
-fn raise(d: u64, distance: &[u64], v: &mut [u64])
-    requires { (length distance.now ≡ length v.old) × (d ≤ most_worth) × ((r : ℕ) → r < length v.old → at v.old r ≤ most_worth) }
-    ensures { v.new ≡ raised (length v.old) d distance.now v.old }
+fn raise(d: u64, distance: &[u64], prices: &mut [u64])
+    requires { (length distance.now ≡ length prices.old) × (d ≤ most_worth) × ((r : ℕ) → r < length prices.old → at prices.old r ≤ most_worth) }
+    ensures { prices.new ≡ raised (length prices.old) d distance.now prices.old }
 {
-    for (r, price) in v.iter_mut().enumerate() {
+    for (r, price) in prices.iter_mut().enumerate() {
         *price += d.saturating_sub(distance[r]);
     }
 }
 
 // The numbers of placed persons fall as their rooms rise, and p's falls by d.
-fn lower(p: usize, d: u64, distance: &[u64], rooms: &Rooms, u: &mut [u64])
-    requires sizes { (length distance.now ≡ length u.old) × (length rooms.now.room.now ≡ length u.old) × (p < length u.old) }
-    requires rooms { (i : ℕ) → i < length u.old → at rooms.now.room.now i < length u.old }
-    requires fits { ((i : ℕ) → i < p → d ≤ at distance.now (at rooms.now.room.now i) + at u.old i) × (d ≤ at u.old p) }
-    ensures { u.new ≡ lowered (length u.old) p d distance.now rooms.now.room.now u.old }
+fn lower(p: usize, d: u64, distance: &[u64], rooms: &Rooms, persons: &mut [u64])
+    requires sizes { (length distance.now ≡ length persons.old) × (length rooms.now.room.now ≡ length persons.old) × (p < length persons.old) }
+    requires rooms { (i : ℕ) → i < length persons.old → at rooms.now.room.now i < length persons.old }
+    requires fits { ((i : ℕ) → i < p → d ≤ at distance.now (at rooms.now.room.now i) + at persons.old i) × (d ≤ at persons.old p) }
+    ensures { persons.new ≡ lowered (length persons.old) p d distance.now rooms.now.room.now persons.old }
 {
-    let (placed, rest) = u.split_at_mut(p);
+    let (placed, rest) = persons.split_at_mut(p);
     for (i, number) in placed.iter_mut().enumerate() {
         *number -= d.saturating_sub(distance[rooms.room[i] as usize]);
     }

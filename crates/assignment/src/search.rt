@@ -22,13 +22,14 @@ pub struct Tree<'a> {
 }
 
 // A person's row of offers: for each room the base and the room's number, above the worth.
-fn offer(mine: [u32; MOST_PEOPLE], base: u64, v: &[u64], row: &mut [u64])
-    requires sizes { (length v.now ≤ most_people) × ((length row.old ≡ length v.now) × (base ≤ 3 * most_worth)) }
-    requires covered { (((r : ℕ) → r < length v.now → at mine r ≤ base + at v.now r)) × (((r : ℕ) → r < length v.now → at v.now r ≤ most_worth)) }
-    ensures { row.new ≡ list_of (λ r. base + at v.now r - at mine r) (length v.now) }
+fn offer(mine: [u32; MOST_PEOPLE], base: u64, prices: &[u64], row: &mut [u64])
+    requires sizes { (length prices.now ≤ most_people) × (length row.old ≡ length prices.now) × (base ≤ 3 * most_worth) }
+    requires covered { (r : ℕ) → r < length prices.now → at mine r ≤ base + at prices.now r }
+    requires prices { (r : ℕ) → r < length prices.now → at prices.now r ≤ most_worth }
+    ensures { row.new ≡ list_of (λ r. base + at prices.now r - at mine r) (length prices.now) }
 {
     for (r, offer) in row.iter_mut().enumerate() {
-        *offer = base + v[r] - u64::from(mine[r]);
+        *offer = base + prices[r] - u64::from(mine[r]);
     }
 }
 
@@ -38,6 +39,7 @@ fn merge(row: &[u64], i: usize, distance: &mut [u64], parent: &mut [u64])
     ensures near { distance.new ≡ nearer (length row.now) row.now distance.old }
     ensures by { parent.new ≡ parents (length row.now) i row.now distance.old parent.old }
 {
+    // Two slices are written, so both are indexed: after a zip of them a proof knows no element.
     for (r, offer) in row.iter().enumerate() {
         if *offer < distance[r] {
             distance[r] = *offer;

@@ -12,12 +12,8 @@ fn written(n: u8, worths: &[u32]) -> [u8; 2309]
 {
     let mut bytes = [0; 2309];
     bytes[0] = n;
-    for k in 0..worths.len() {
-        let [a, b, c, d] = worths[k].to_le_bytes();
-        bytes[5 + 4 * k] = a;
-        bytes[6 + 4 * k] = b;
-        bytes[7 + 4 * k] = c;
-        bytes[8 + 4 * k] = d;
+    for (k, worth) in worths.iter().enumerate() {
+        bytes[5 + 4 * k..9 + 4 * k].copy_from_slice(&worth.to_le_bytes());
     }
     bytes
 }

@@ -1,5 +1,4 @@
-use Rattle.std.proofs.Common.{◌≡◌, length, replicate, ◌∙◌, ap, arith, rules}
-use Rattle.std.specs.List.{range_with_len}
+use Rattle.std.proofs.Common.{◌≡◌, length, replicate, rules}
 use Rattle.rooms.specs.Format.{most_worth}
 use Rattle.assignment.proofs.Whole.{beginning_is}
 use Rattle.assignment.proofs.rounds.begin.Goals as goal

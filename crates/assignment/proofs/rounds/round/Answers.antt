@@ -1,5 +1,4 @@
 use Rattle.std.proofs.Common.{arith}
-use Rattle.std.proofs.lemmas.Nat.{mul-le}
 use Rattle.rooms.specs.Format.{house_of}
 use Rattle.assignment.specs.Slices.{Holding}
 use Rattle.assignment.proofs.Growth.{grew_by}

@@ -1,6 +1,6 @@
-use Rattle.std.proofs.Common.{◌≡◌, ◌+◌, ◌<◌, length, set, refl, ◌∙◌, arith, length-set, get_or-set_same}
+use Rattle.std.proofs.Common.{◌≡◌, ◌+◌, ◌<◌, set, refl, ◌∙◌, arith, length-set, get_or-set_same}
 use Rattle.rooms.specs.Format.{house_of}
-use Rattle.assignment.specs.Search.{at, nearest_of}
+use Rattle.assignment.specs.Search.{at}
 use Rattle.assignment.proofs.Growth.{growing_none, growing_fresh, growing_stop, growing_more, growing_never}
 use Rattle.assignment.proofs.Step.{grown_few}
 use Rattle.assignment.proofs.search.grow.Goals as goal

@@ -1,20 +1,24 @@
-// Small houses made from a seed.
-use super::seed::draw;
+// Houses made from a seed.
+ghost use Rattle.std.specs.Prelude.{◌<◌, vec_len};
+
+use super::seed::Seed;
+use rooms::group::MOST_RENT;
 use std::alloc::{AllocError, Global};
 
-// The most people of these houses.
-pub(super) const MOST: usize = 5;
+// The most people of a small house.
+pub(super) const FEW: usize = 5;
 
-#[derive(Clone, Copy)]
+#[derive(Drop)]
 pub(super) struct House {
-    pub(super) n: u8,
     pub(super) rent: u32,
-    pub(super) worth: [[u32; MOST]; MOST],
+    // What each room is worth to each person, a row for each of them.
+    pub(super) worth: Vec<Vec<u32>>,
+    ghost people: { vec_len worth < 256 },
 }
 
 impl House {
-    // House number k: in turn many ties, middling worths, large ones, everybody of one mind, and nothing but zeros and ones.
-    pub(super) fn made(seed: &mut u64, k: u32) -> House {
+    // Small house number k: in turn many ties, middling worths, large ones, everybody of one mind, and nothing but zeros and ones.
+    pub(super) fn small(heap: Global, seed: &mut Seed, k: u32) -> Result<House, AllocError> {
         let most = match k % 5 {
             0 => 4,
             1 => 100,
@@ -22,31 +26,35 @@ impl House {
             3 => 50,
             _ => 1,
         };
-        let n = 1 + (draw(seed, 4) % 5) as u8;
-        let mut worth = [[0; MOST]; MOST];
-        for i in 0..MOST {
-            for r in 0..MOST {
-                worth[i][r] = draw(seed, most);
-            }
+        let n = 1 + seed.draw_len(4);
+        // All is drawn for five people, whoever of them lives there.
+        let mut table = [[0; FEW]; FEW];
+        for worth in table.iter_mut().flatten() {
+            *worth = seed.draw(most);
         }
         if k % 5 == 3 {
-            worth = [worth[0]; MOST];
+            table = [table[0]; FEW];
         }
-        let rent = draw(seed, most.saturating_mul(6).min(24_000_000));
-        House { n, rent, worth }
+        let worth = table[..n]
+            .iter()
+            .map(|row| row[..n].to_vec(heap))
+            .try_collect(heap)?;
+        let rent = seed.draw(most.saturating_mul(6).min(MOST_RENT));
+        Ok(House { rent, worth })
+    }
+
+    pub(super) fn people(&self) -> u8 {
+        self.worth.len() as u8
     }
 
     // The bytes of a group that lives in it.
     pub(super) fn bytes(&self, heap: Global) -> Result<Vec<u8>, AllocError> {
-        let mut bytes = Vec::new(heap);
-        bytes.push(self.n)?;
+        let n = usize::from(self.people());
+        let mut bytes = Vec::with_capacity(heap, 5 + 4 * (n * n))?;
+        bytes.push(self.people())?;
         bytes.extend_from_slice(&self.rent.to_le_bytes())?;
-        for i in 0..MOST {
-            for r in 0..MOST {
-                if i < self.n as usize && r < self.n as usize {
-                    bytes.extend_from_slice(&self.worth[i][r].to_le_bytes())?;
-                }
-            }
+        for worth in self.worth.iter().flatten() {
+            bytes.extend_from_slice(&worth.to_le_bytes())?;
         }
         Ok(bytes)
     }

@@ -1,47 +1,87 @@
 // Groups and sheets by the million, sound and damaged, through one process: what is answered, and whether every refusal is well formed.
-use super::groups::{KINDS, push_group};
-use super::seed::draw;
+ghost use Rattle.std.specs.Prelude.{◌<◌, ◌≤◌};
+ghost use Rattle.rooms.specs.declared.group.TheConstants.{MOST_PEOPLE};
+ghost use Rattle.sheet.specs.declared.sharing.TheConstants.{MOST_RENTS, MOST_WORK, MOST_SHEET};
+
+use super::kinds::KINDS;
+use super::lent::Lent;
+use super::seed::Seed;
 use super::timing::mix;
 use assignment::work_len;
-use rooms::Refusal;
 use rooms::group::MOST_PEOPLE;
 use sheet::sharing::{MOST_RENTS, MOST_SHEET, MOST_WORK};
-use sheet::{Verdict, check, share, sheet_len};
+use sheet::{check, share, sheet_len};
 use std::alloc::{AllocError, Global};
-use std::io;
+use std::{fmt, io};
 
-// What was answered so far: how often each number, 0 where nothing was refused; the sum over all answers; the refusals with a place that can't be or another
-// text than their number's and place's; and those that changed a lent slice.
-#[derive(Clone, Copy)]
+// What was answered so far.
+#[derive(Clone, Copy, Default)]
 struct Tally {
-    numbers: [u64; 12],
+    // Groups taken and sheets accepted.
+    taken: u64,
+    // Refusals by their numbers, from 1 on.
+    refused: [u64; 11],
+    // The sum over all answers.
     sum: u64,
+    // Refusals with a place that can't be, or another text than their number's and place's.
     ill_formed: u64,
+    // Refusals that changed a lent slice.
     changed: u64,
 }
 
 impl Tally {
-    fn count(&mut self, number: u32, place: u128) {
-        if (number as usize) < 12 {
-            self.numbers[number as usize] = self.numbers[number as usize].saturating_add(1);
+    // Takes a number and a place into the sum; 0 and 0 where nothing was refused.
+    fn take(&mut self, number: u32, place: u128) {
+        self.sum = mix(
+            mix(self.sum, u64::from(number)),
+            (place & 0xffff_ffff) as u64,
+        );
+    }
+
+    fn accept(&mut self) {
+        self.taken = self.taken.saturating_add(1);
+        self.take(0, 0);
+    }
+
+    fn refuse(&mut self, number: u32, place: u128) {
+        if let Some(k) = number.checked_sub(1)
+            && let Some(times) = self.refused.get_mut(k as usize)
+        {
+            *times = times.saturating_add(1);
         }
-        self.sum = mix(mix(self.sum, number as u64), (place & 0xffff_ffff) as u64);
+        self.take(number, place);
+    }
+}
+
+impl fmt::Display for Tally {
+    fn fmt<W: fmt::Write>(&self, f: &mut fmt::Formatter<W>) -> fmt::Result {
+        write!(f, "taken or accepted {}, refused", self.taken)?;
+        for (number, times) in (1u32..).zip(&self.refused) {
+            write!(f, " {number}: {times}")?;
+        }
+        write!(
+            f,
+            ", ill formed {}, changing what was lent {}, sum {}",
+            self.ill_formed, self.changed, self.sum
+        )
     }
 }
 
 // What stands in a lent slice before a call, so that a write is seen.
 const MARK: u8 = 77;
 
-// Whether a refusal of this number can stand at this place, by the people of the group and the lengths of group and sheet.
-fn is_place(number: u32, place: u128, people: u128, group: u128, sheet: u128) -> bool {
+// Whether a refusal can stand at this place, by the people of the group and the lengths of group and sheet. Its kind is the number that is printed, so
+// that numbers are tried too.
+fn is_place(number: u32, place: u128, group: &[u8], sheet: &[u8]) -> bool {
+    let people = group.first().copied().map_or(0, u128::from);
     let pair = place / 32 < people && place % 32 < people;
     match number {
-        1 => place <= group,
+        1 => place <= group.len() as u128,
         2 => place == 0,
         3 => place == 1,
-        4 => place >= 5 && place % 4 == 1 && place < group,
+        4 => place >= 5 && place % 4 == 1 && place < group.len() as u128,
         5 => place < 4,
-        6 => place == sheet,
+        6 => place == sheet.len() as u128,
         7 | 9 => place < people,
         8 | 10 => pair,
         11 => place < people || (place >= 32 && place - 32 < people),
@@ -49,263 +89,201 @@ fn is_place(number: u32, place: u128, people: u128, group: u128, sheet: u128) ->
     }
 }
 
-fn is_text(heap: Global, text: String, number: u32, place: u128) -> Result<bool, AllocError> {
-    let wanted = format!(in heap; "refused {number} at {place}")?;
-    Ok(text.as_str() == wanted.as_str())
+// How much of each slice is lent.
+#[derive(Clone, Copy)]
+struct Lengths {
+    rooms: usize,
+    rents: usize,
+    work: usize,
+    sheet: usize,
+    ghost rooms_within: { rooms ≤ MOST_PEOPLE },
+    ghost rents_within: { rents ≤ MOST_RENTS },
+    ghost work_within: { work ≤ MOST_WORK },
+    ghost sheet_within: { sheet ≤ MOST_SHEET },
 }
 
-// Counts a refusal of share.
-fn count_refusal(
-    heap: Global,
-    refusal: Refusal,
-    group: &[u8],
-    tally: &mut Tally,
-) -> Result<(), AllocError> {
-    let (number, place) = (refusal.number(), refusal.place() as u128);
-    let text = format!(in heap; "{refusal}")?;
-    let people = group.first().copied().unwrap_or(0) as u128;
-    if !is_place(number, place, people, group.len() as u128, 0)
-        || !is_text(heap, text, number, place)?
+const ALL: Lengths = Lengths {
+    rooms: MOST_PEOPLE,
+    rents: MOST_RENTS,
+    work: MOST_WORK,
+    sheet: MOST_SHEET,
+};
+
+impl Lengths {
+    // One of the slices is too short for so many people.
+    fn too_short(seed: &mut Seed, people: u8) -> Lengths
+        requires some { 0 < people }
+        requires few { people ≤ MOST_PEOPLE }
     {
-        tally.ill_formed = tally.ill_formed.saturating_add(1);
-    }
-    tally.count(number, place);
-    Ok(())
-}
-
-// Checks a sheet, and counts the verdict.
-fn try_sheet(
-    heap: Global,
-    group: &[u8],
-    sheet: &[u8],
-    tally: &mut Tally,
-) -> Result<(), AllocError> {
-    let verdict = check(group, sheet);
-    let Some((number, place)) = verdict.fault() else {
-        tally.count(0, 0);
-        return Ok(());
-    };
-    let text = format!(in heap; "{verdict}")?;
-    let people = group.first().copied().unwrap_or(0) as u128;
-    if !is_place(
-        number,
-        place,
-        people,
-        group.len() as u128,
-        sheet.len() as u128,
-    ) || !is_text(heap, text, number, place)?
-    {
-        tally.ill_formed = tally.ill_formed.saturating_add(1);
-    }
-    tally.count(number, place);
-    Ok(())
-}
-
-// Whether all of a slice is still the mark.
-fn is_marked<T: PartialEq + Drop>(slice: &[T], mark: T) -> bool {
-    for x in slice {
-        if *x != mark {
-            return false;
+        let n = usize::from(people);
+        let mut lengths = ALL;
+        match seed.draw(3) {
+            0 => lengths.rooms = n - 1,
+            1 => lengths.rents = 2 * n - 1,
+            2 => lengths.work = work_len(n) - 1,
+            _ => lengths.sheet = sheet_len(n) - 1,
         }
-    }
-    true
-}
-
-// Shares a group on these slices, and counts the answer. The sheet, where there is one.
-fn try_lent(
-    heap: Global,
-    group: &[u8],
-    rooms: &mut [u32],
-    rents: &mut [u64],
-    work: &mut [u64],
-    sheet: &mut [u8],
-    tally: &mut Tally,
-) -> Result<Option<Vec<u8>>, AllocError> {
-    rooms.fill(MARK as u32);
-    rents.fill(MARK as u64);
-    work.fill(MARK as u64);
-    sheet.fill(MARK);
-    match share(group, rooms, rents, work, sheet) {
-        Ok(shared) => {
-            tally.count(0, 0);
-            tally.sum = mix(
-                mix(mix(tally.sum, shared.looks), shared.joint.cast_unsigned()),
-                shared.least.cast_unsigned(),
-            );
-            let mut written = Vec::new(heap);
-            let len = sheet_len(shared.people).min(sheet.len());
-            written.extend_from_slice(&sheet[0..len])?;
-            Ok(Some(written))
-        }
-        Err(refusal) => {
-            if !is_marked(rooms, MARK as u32)
-                || !is_marked(rents, MARK as u64)
-                || !is_marked(work, MARK as u64)
-                || !is_marked(sheet, MARK)
-            {
-                tally.changed = tally.changed.saturating_add(1);
-            }
-            count_refusal(heap, refusal, group, tally)?;
-            Ok(None)
-        }
-    }
-}
-
-// The longest slices, of which parts are lent.
-const MOST: [usize; 4] = [MOST_PEOPLE, MOST_RENTS, MOST_WORK, MOST_SHEET];
-
-// Shares a group on slices of these lengths.
-fn try_group(
-    heap: Global,
-    group: &[u8],
-    lent: [usize; 4],
-    tally: &mut Tally,
-) -> Result<Option<Vec<u8>>, AllocError> {
-    let mut rooms = [0; MOST_PEOPLE];
-    let mut rents = [0; MOST_RENTS];
-    let mut work = [0; MOST_WORK];
-    let mut sheet = [0; MOST_SHEET];
-    try_lent(
-        heap,
-        group,
-        &mut rooms[0..lent[0].min(MOST_PEOPLE)],
-        &mut rents[0..lent[1].min(MOST_RENTS)],
-        &mut work[0..lent[2].min(MOST_WORK)],
-        &mut sheet[0..lent[3].min(MOST_SHEET)],
-        tally,
-    )
-}
-
-// Another value for one of the bytes.
-fn damage(seed: &mut u64, bytes: &mut [u8]) {
-    if bytes.len() == 0 {
-        return;
-    }
-    let k = draw(seed, (bytes.len() - 1).min(65535) as u32) as usize;
-    let by = (1 + draw(seed, 254) % 255) as u8;
-    if k < bytes.len() {
-        bytes[k] ^= by;
+        lengths
     }
 }
 
 // A sheet in which everybody stands alone, so that only ways tell it from the longest rows.
-fn separate(bytes: &mut [u8], people: u8) {
-    for k in 0..10 * people as usize {
-        if k < bytes.len() && k % 10 == 1 {
-            bytes[k] = 255;
-        } else if k < bytes.len() && k % 10 > 1 {
-            bytes[k] = 0;
+fn separate(sheet: &mut [u8], people: u8) {
+    for person in sheet.chunks_exact_mut(10).take(usize::from(people)) {
+        if let [_, before, length @ ..] = person {
+            *before = 255;
+            length.fill(0);
         }
     }
 }
 
-// Any bytes.
-fn scramble(seed: &mut u64, bytes: &mut [u8]) {
-    for byte in bytes.iter_mut() {
-        *byte = (draw(seed, 255) & 0xff) as u8;
-    }
-}
-
-// A sound group, shared and checked, and its sheet checked again with one byte, all bytes, the rows or the length changed.
-fn try_sound(
+// A seed, and what was answered to the groups and sheets made from it.
+#[derive(Drop)]
+struct Trial {
     heap: Global,
-    seed: &mut u64,
-    group: &[u8],
-    people: u8,
-    tally: &mut Tally,
-) -> Result<(), AllocError> {
-    let Some(mut sheet) = try_group(heap, group, MOST, tally)? else {
-        return Ok(());
-    };
-    try_sheet(heap, group, sheet.as_slice(), tally)?;
-    match draw(seed, 7) {
-        0 => separate(sheet.as_mut_slice(), people),
-        1 => scramble(seed, sheet.as_mut_slice()),
-        2 => sheet.push(MARK)?,
-        3 => {
-            let _ = sheet.pop();
-        }
-        _ => damage(seed, sheet.as_mut_slice()),
-    }
-    try_sheet(heap, group, sheet.as_slice(), tally)
+    seed: Seed,
+    // Slices that were not written to.
+    unused: Lent,
+    tally: Tally,
 }
 
-// A group with one byte changed, cut, longer, on a slice that is too short, or of any bytes.
-fn try_damaged(
-    heap: Global,
-    seed: &mut u64,
-    mut group: Vec<u8>,
-    people: u8,
-    tally: &mut Tally,
-) -> Result<(), AllocError> {
-    let mut lent = MOST;
-    match draw(seed, 7) {
-        0 => group.push(MARK)?,
-        1 => {
-            let keep = draw(seed, group.len().min(65535) as u32) as usize;
-            group.truncate(keep);
+impl Trial {
+    // Counts a refusal by the number and the place of its fault, and whether it is well formed.
+    fn refuse<T: fmt::Display>(
+        &mut self,
+        refusal: &T,
+        fault: (u32, u128),
+        group: &[u8],
+        sheet: &[u8],
+    ) -> Result<(), AllocError> {
+        let (number, place) = fault;
+        let text = format!(in self.heap; "{refusal}")?;
+        let wanted = format!(in self.heap; "refused {number} at {place}")?;
+        if !is_place(number, place, group, sheet) || text != wanted {
+            self.tally.ill_formed = self.tally.ill_formed.saturating_add(1);
         }
-        2 => {
-            let n = (people as usize).min(MOST_PEOPLE);
-            let which = draw(seed, 3) as usize;
-            let wanted = [n, 2 * n, work_len(n), sheet_len(n)];
-            if which < 4 {
-                lent[which] = wanted[which].saturating_sub(1);
+        self.tally.refuse(number, place);
+        Ok(())
+    }
+
+    // Checks a sheet, and counts the verdict.
+    fn try_sheet(&mut self, group: &[u8], sheet: &[u8]) -> Result<(), AllocError> {
+        let verdict = check(group, sheet);
+        match verdict.fault() {
+            None => {
+                self.tally.accept();
+                Ok(())
+            }
+            Some(fault) => self.refuse(&verdict, fault, group, sheet),
+        }
+    }
+
+    // Shares a group on slices of these lengths, and counts the answer. The sheet, where there is one.
+    fn try_group(&mut self, group: &[u8], lengths: Lengths) -> Result<Option<Vec<u8>>, AllocError> {
+        let mut lent = self.unused;
+        let outcome = share(
+            group,
+            &mut lent.rooms[..lengths.rooms],
+            &mut lent.rents[..lengths.rents],
+            &mut lent.work[..lengths.work],
+            &mut lent.sheet[..lengths.sheet],
+        );
+        match outcome {
+            Ok(shared) => {
+                self.tally.accept();
+                let totals = [
+                    shared.looks,
+                    shared.joint.cast_unsigned(),
+                    shared.least.cast_unsigned(),
+                ];
+                self.tally.sum = totals.into_iter().fold(self.tally.sum, mix);
+                let sheet = lent.sheet[..sheet_len(shared.people)].to_vec(self.heap)?;
+                Ok(Some(sheet))
+            }
+            Err(refusal) => {
+                if lent != self.unused {
+                    self.tally.changed = self.tally.changed.saturating_add(1);
+                }
+                let fault = (refusal.number(), refusal.place() as u128);
+                self.refuse(&refusal, fault, group, &[])?;
+                Ok(None)
             }
         }
-        3 => {
-            group.truncate(21);
-            scramble(seed, group.as_mut_slice());
-            if group.len() > 0 {
-                group[0] = 2;
-            }
-        }
-        _ => damage(seed, group.as_mut_slice()),
     }
-    let _ = try_group(heap, group.as_slice(), lent, tally)?;
-    Ok(())
-}
 
-// `count` groups, every second one sound with its sheets; every sixty-fourth is one of 24.
-pub(super) fn load_all(rt: &HostRuntime, count: u64) -> io::Result<()> {
-    let heap = rt.alloc();
-    let mut seed = 2;
-    let mut tally = Tally {
-        numbers: [0; 12],
-        sum: 0,
-        ill_formed: 0,
-        changed: 0,
-    };
-    for k in 0..count {
+    // A sound group, shared and checked, and its sheet checked again with one byte, all bytes, the rows or the length changed.
+    fn try_sound(&mut self, group: &[u8], people: u8) -> Result<(), AllocError> {
+        let Some(mut sheet) = self.try_group(group, ALL)? else {
+            return Ok(());
+        };
+        self.try_sheet(group, sheet.as_slice())?;
+        match self.seed.draw(7) {
+            0 => separate(sheet.as_mut_slice(), people),
+            1 => self.seed.scramble(sheet.as_mut_slice()),
+            2 => sheet.push(MARK)?,
+            3 => {
+                let _ = sheet.pop();
+            }
+            _ => self.seed.damage(sheet.as_mut_slice()),
+        }
+        self.try_sheet(group, sheet.as_slice())
+    }
+
+    // A group with one byte changed, cut, longer, on a slice that is too short, or of any bytes.
+    fn try_damaged(&mut self, mut group: Vec<u8>, people: u8) -> Result<(), AllocError>
+        requires some { 0 < people }
+        requires few { people ≤ MOST_PEOPLE }
+    {
+        let mut lengths = ALL;
+        match self.seed.draw(7) {
+            0 => group.push(MARK)?,
+            1 => {
+                let keep = self.seed.draw_len(group.len());
+                group.truncate(keep);
+            }
+            2 => lengths = Lengths::too_short(&mut self.seed, people),
+            3 => {
+                group.truncate(21);
+                self.seed.scramble(group.as_mut_slice());
+                if let Some(n) = group.first_mut() {
+                    *n = 2;
+                }
+            }
+            _ => self.seed.damage(group.as_mut_slice()),
+        }
+        let _ = self.try_group(group.as_slice(), lengths)?;
+        Ok(())
+    }
+
+    // Group number k. Every second one is sound, with its sheets; every sixty-fourth is one of 24.
+    fn try_number(&mut self, k: u64) -> Result<(), AllocError> {
         let people = if k % 64 == 63 {
             24
         } else {
-            (1 + draw(&mut seed, 5) % 6) as u8
+            (1 + self.seed.draw(5)) as u8
         };
-        let mut group = Vec::new(heap);
-        push_group(&mut seed, people, KINDS[(k / 2 % 4) as usize], &mut group)?;
+        let kind = KINDS[(k / 2 % 4) as usize];
+        let group = kind
+            .house(self.heap, &mut self.seed, people)?
+            .bytes(self.heap)?;
         if k % 2 == 0 {
-            try_sound(heap, &mut seed, group.as_slice(), people, &mut tally)?;
+            self.try_sound(group.as_slice(), people)
         } else {
-            try_damaged(heap, &mut seed, group, people, &mut tally)?;
+            self.try_damaged(group, people)
         }
     }
-    tell_load(rt, count, &tally)
 }
 
-fn tell_load(rt: &HostRuntime, count: u64, tally: &Tally) -> io::Result<()> {
-    print!(rt;
-        "groups {count}, taken or accepted {}, refused",
-        tally.numbers[0]
-    )?;
-    for number in 1..12usize {
-        print!(rt; " {number}: {}", tally.numbers[number])?;
+// `count` groups.
+pub(super) fn load_all(rt: &HostRuntime, count: u64) -> io::Result<()> {
+    let mut trial = Trial {
+        heap: rt.alloc(),
+        seed: Seed(2),
+        unused: Lent::filled(MARK),
+        tally: Tally::default(),
+    };
+    for k in 0..count {
+        trial.try_number(k)?;
     }
-    let Tally {
-        sum,
-        ill_formed,
-        changed,
-        ..
-    } = *tally;
-    println!(rt; ", ill formed {ill_formed}, changing what was lent {changed}, sum {sum}")
+    println!(rt; "groups {count}, {}", trial.tally)
 }

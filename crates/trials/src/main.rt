@@ -2,8 +2,9 @@
 #![tactic(auto)]
 
 mod compare;
-mod groups;
 mod house;
+mod kinds;
+mod lent;
 mod load;
 mod plain;
 mod seed;
@@ -29,55 +30,43 @@ fn help(rt: &HostRuntime) -> io::Result<()> {
     println!(rt; "no word: compare.")
 }
 
-fn usage(rt: &HostRuntime) -> io::Result<bool> {
+fn usage(rt: &HostRuntime) -> io::Result<ExitCode> {
     eprintln!(rt; "usage: trials [compare | time COUNT PASSES [N] | load COUNT]")?;
-    Ok(false)
+    Ok(ExitCode::FAILURE)
 }
 
-// The number that a word is, or nothing.
+// The number that a word is.
 fn number(word: Option<String>) -> Option<u64> {
-    match word?.as_str().parse::<u64>() {
-        Ok(n) => Some(n),
-        Err(_) => None,
-    }
+    word?.as_str().parse::<u64>().ok()
 }
 
-fn run(rt: &HostRuntime) -> io::Result<bool> {
+fn run(rt: &HostRuntime) -> io::Result<ExitCode> {
     let mut args = env::args(rt)?;
     let _ = args.next();
-    let Some(mode) = args.next() else {
-        compare_all(rt)?;
-        return Ok(true);
-    };
-    if mode.as_str() == "--help" {
-        help(rt)?;
-        return Ok(true);
+    let mode = args.next();
+    match mode.as_ref().map_or("compare", |word| word.as_str()) {
+        "--help" => help(rt)?,
+        "compare" => compare_all(rt)?,
+        "time" => {
+            let (Some(count), Some(passes)) = (number(args.next()), number(args.next())) else {
+                return usage(rt);
+            };
+            time_all(rt, count, passes, number(args.next()))?;
+        }
+        "load" => {
+            let Some(count) = number(args.next()) else {
+                return usage(rt);
+            };
+            load_all(rt, count)?;
+        }
+        _ => return usage(rt),
     }
-    if mode.as_str() == "compare" {
-        compare_all(rt)?;
-        return Ok(true);
-    }
-    if mode.as_str() == "time" {
-        let (Some(count), Some(passes)) = (number(args.next()), number(args.next())) else {
-            return usage(rt);
-        };
-        time_all(rt, count, passes, number(args.next()))?;
-        return Ok(true);
-    }
-    if mode.as_str() == "load" {
-        let Some(count) = number(args.next()) else {
-            return usage(rt);
-        };
-        load_all(rt, count)?;
-        return Ok(true);
-    }
-    usage(rt)
+    Ok(ExitCode::SUCCESS)
 }
 
 fn main(rt: HostRuntime) -> ExitCode {
     match run(&rt) {
-        Ok(true) => ExitCode::SUCCESS,
-        Ok(false) => ExitCode::FAILURE,
+        Ok(code) => code,
         Err(e) => {
             let _ = eprintln!(rt; "trials: {e}");
             ExitCode::FAILURE

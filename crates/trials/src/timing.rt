@@ -1,30 +1,84 @@
 // Groups made from a seed, shared and checked, and how long each part takes.
-use super::groups::{KINDS, Kind, push_group};
-use assignment::{assign, work_len};
+use super::kinds::{KINDS, Kind};
+use super::lent::Lent;
+use super::seed::Seed;
+use assignment::assign;
 use longest::longest_rows;
-use rooms::Group;
-use rooms::group::MOST_PEOPLE;
-use sheet::sharing::{MOST_RENTS, MOST_SHEET, MOST_WORK};
-use sheet::{Verdict, check, share, sheet_len};
+use rooms::{Group, Refusal};
+use sheet::{Verdict, check, sheet_len};
+use std::alloc::{AllocError, Global};
 use std::io;
 use std::time::Instant;
 
-// The parts of a share, one after the other.
-#[derive(Clone, Copy)]
-enum Part {
-    Reading,
-    Sharing,
-    Rows,
-    Whole,
+// A group, and the sheet of its share.
+#[derive(Drop)]
+struct Case {
+    group: Vec<u8>,
+    sheet: Vec<u8>,
 }
 
-const PARTS: [Part; 4] = [Part::Reading, Part::Sharing, Part::Rows, Part::Whole];
-
-// How long a pass over all groups took, in nanoseconds: up to the end of each part, and checking.
+// How long a pass over all cases took, in nanoseconds: up to the end of each part of a share, and checking.
 #[derive(Clone, Copy)]
 struct Times {
-    until: [u64; 4],
+    read: u64,
+    sharing: u64,
+    rows: u64,
+    share: u64,
     check: u64,
+}
+
+impl Times {
+    // The faster of two passes, part by part.
+    fn faster(self, other: Times) -> Times {
+        Times {
+            read: self.read.min(other.read),
+            sharing: self.sharing.min(other.sharing),
+            rows: self.rows.min(other.rows),
+            share: self.share.min(other.share),
+            check: self.check.min(other.check),
+        }
+    }
+
+    // What each part took for a group of so many: what its end took longer than that of the part before.
+    fn tell(self, rt: &HostRuntime, n: u8, kind: Kind, count: u64) -> io::Result<()> {
+        let each = |nanos: u64| nanos / count.max(1);
+        let read = each(self.read);
+        let sharing = each(self.sharing.saturating_sub(self.read));
+        let rows = each(self.rows.saturating_sub(self.sharing));
+        let rest = each(self.share.saturating_sub(self.rows));
+        let share = each(self.share);
+        let check = each(self.check);
+        eprintln!(rt;
+            "n {n} {kind}: read {read} sharing {sharing} rows {rows} rents-and-sheet {rest} share {share} check {check}"
+        )
+    }
+}
+
+// The parts of a share up to reading: the group.
+fn read(bytes: &[u8]) -> Result<Group<'_>, Refusal> {
+    Group::validate(bytes)?;
+    Ok(Group::new(bytes))
+}
+
+// The parts of a share up to the sharing: how many looks.
+fn looks(bytes: &[u8], lent: &mut Lent) -> Result<u64, Refusal> {
+    let group = read(bytes)?;
+    let found = assign(&group, &mut lent.rooms, &mut lent.work);
+    Ok(found.looks)
+}
+
+// The parts of a share up to the longest rows: how many rounds.
+fn rounds(bytes: &[u8], lent: &mut Lent) -> Result<u64, Refusal> {
+    let group = read(bytes)?;
+    let found = assign(&group, &mut lent.rooms, &mut lent.work);
+    let rows = longest_rows(
+        &group,
+        &lent.rooms,
+        found.persons,
+        found.rooms,
+        &mut lent.work,
+    );
+    Ok(rows.rounds as u64)
 }
 
 // Another number of an answer, taken into the sum of all.
@@ -32,145 +86,8 @@ pub(super) fn mix(sum: u64, x: u64) -> u64 {
     (sum ^ x).wrapping_mul(1_099_511_628_211)
 }
 
-// The parts of a share up to the longest rows. How many rounds, or how many looks where only the sharing is wanted.
-fn run_rows(group: &[u8], rows_too: bool, rooms: &mut [u32], work: &mut [u64]) -> u64 {
-    if let Err(_) = Group::validate(group) {
-        return 0;
-    }
-    let group = Group::new(group);
-    let n = group.count();
-    if rooms.len() < n || work.len() < work_len(n) {
-        return 0;
-    }
-    let found = assign(&group, rooms, work);
-    if !rows_too {
-        return found.looks;
-    }
-    longest_rows(&group, rooms, found.persons, found.rooms, work).rounds as u64
-}
-
-// The parts of a share up to this one.
-fn run_until(
-    part: Part,
-    group: &[u8],
-    rooms: &mut [u32],
-    rents: &mut [u64],
-    work: &mut [u64],
-    sheet: &mut [u8],
-) -> u64 {
-    match part {
-        Part::Reading => match Group::validate(group) {
-            Ok(()) => 1,
-            Err(_) => 0,
-        },
-        Part::Sharing => run_rows(group, false, rooms, work),
-        Part::Rows => run_rows(group, true, rooms, work),
-        Part::Whole => match share(group, rooms, rents, work, sheet) {
-            Ok(shared) => shared.looks,
-            Err(_) => 0,
-        },
-    }
-}
-
-fn nanos(rt: &HostRuntime, start: Instant) -> io::Result<u64> {
-    Ok(u64::try_from(start.elapsed(rt)?.as_nanos()).unwrap_or(u64::MAX))
-}
-
-// All groups, up to a part: how long it took. `seen` takes the answers, so that none is left out as unused.
-fn time_until(
-    rt: &HostRuntime,
-    part: Part,
-    groups: &[u8],
-    len: usize,
-    rooms: &mut [u32],
-    rents: &mut [u64],
-    work: &mut [u64],
-    sheet: &mut [u8],
-    seen: &mut u64,
-) -> io::Result<u64> {
-    let start = Instant::now(rt)?;
-    for group in groups.chunks_exact(len.max(1)) {
-        let answer = run_until(part, group, rooms, rents, work, sheet);
-        *seen = seen.wrapping_add(answer);
-    }
-    nanos(rt, start)
-}
-
-// All groups with their sheets, checked: how long it took.
-fn time_check(
-    rt: &HostRuntime,
-    groups: &[u8],
-    len: usize,
-    sheets: &[u8],
-    sheet_len: usize,
-    seen: &mut u64,
-) -> io::Result<u64> {
-    let start = Instant::now(rt)?;
-    for (group, sheet) in groups
-        .chunks_exact(len.max(1))
-        .zip(sheets.chunks_exact(sheet_len.max(1)))
-    {
-        if let Verdict::Accepted = check(group, sheet) {
-            *seen = seen.wrapping_add(1);
-        }
-    }
-    nanos(rt, start)
-}
-
-fn time_pass(
-    rt: &HostRuntime,
-    groups: &[u8],
-    len: usize,
-    sheets: &[u8],
-    sheet_len: usize,
-    seen: &mut u64,
-) -> io::Result<Times> {
-    let mut until = [0; 4];
-    for k in 0..4 {
-        let mut rooms = [0; MOST_PEOPLE];
-        let mut rents = [0; MOST_RENTS];
-        let mut work = [0; MOST_WORK];
-        let mut sheet = [0; MOST_SHEET];
-        until[k] = time_until(
-            rt, PARTS[k], groups, len, &mut rooms, &mut rents, &mut work, &mut sheet, seen,
-        )?;
-    }
-    Ok(Times {
-        until,
-        check: time_check(rt, groups, len, sheets, sheet_len, seen)?,
-    })
-}
-
-// The faster of two passes, part by part.
-fn faster(a: Times, b: Times) -> Times {
-    let mut until = a.until;
-    for k in 0..4 {
-        until[k] = a.until[k].min(b.until[k]);
-    }
-    Times {
-        until,
-        check: a.check.min(b.check),
-    }
-}
-
-// What each part took for a group, in nanoseconds: what its end took longer than that of the part before.
-fn tell_times(rt: &HostRuntime, n: u8, kind: Kind, count: u64, times: Times) -> io::Result<()> {
-    let name = kind.name();
-    let count = count.max(1);
-    let until = times.until;
-    let read = until[0] / count;
-    let sharing = until[1].saturating_sub(until[0]) / count;
-    let rows = until[2].saturating_sub(until[1]) / count;
-    let rest = until[3].saturating_sub(until[2]) / count;
-    let whole = until[3] / count;
-    let checked = times.check / count;
-    eprintln!(rt;
-        "n {n} {name}: read {read} sharing {sharing} rows {rows} rents-and-sheet {rest} share {whole} check {checked}"
-    )
-}
-
 // What came out of all groups of a kind.
-#[derive(Clone, Copy)]
+#[derive(Clone, Copy, Default)]
 struct Answers {
     looks: u64,
     rounds: u64,
@@ -178,92 +95,116 @@ struct Answers {
     sum: u64,
 }
 
-// Shares and checks one group, keeps its sheet, and takes all that was answered into the sum.
-fn answer(group: &[u8], sheets: &mut Vec<u8>, so_far: Answers) -> io::Result<Answers> {
-    let mut rooms = [0; MOST_PEOPLE];
-    let mut rents = [0; MOST_RENTS];
-    let mut work = [0; MOST_WORK];
-    let mut sheet = [0; MOST_SHEET];
-    let Ok(shared) = share(group, &mut rooms, &mut rents, &mut work, &mut sheet) else {
-        return Ok(so_far);
-    };
-    let n = shared.people;
-    let written = &sheet[0..sheet_len(n)];
-    let mut sum = mix(
-        mix(
-            mix(so_far.sum, shared.joint.cast_unsigned()),
+impl Answers {
+    // Shares and checks one group, and takes all that was answered into the sum. Its sheet; none where it is refused.
+    fn take(&mut self, heap: Global, group: &[u8]) -> Result<Option<Vec<u8>>, AllocError> {
+        let mut lent = Lent::filled(0);
+        let Ok(shared) = lent.share(group) else {
+            return Ok(None);
+        };
+        let n = shared.people;
+        let sheet = lent.sheet[..sheet_len(n)].to_vec(heap)?;
+        let totals = [
+            shared.joint.cast_unsigned(),
             shared.least.cast_unsigned(),
-        ),
-        shared.looks,
-    );
-    for room in &rooms[0..n] {
-        sum = mix(sum, *room as u64);
+            shared.looks,
+        ];
+        let rooms = lent.rooms[..n].iter().map(|room| u64::from(*room));
+        let rents = lent.rents[..2 * n].iter().copied();
+        let bytes = sheet.iter().map(|byte| u64::from(*byte));
+        self.sum = totals.into_iter().fold(self.sum, mix);
+        self.sum = rooms.fold(self.sum, mix);
+        self.sum = rents.fold(self.sum, mix);
+        self.sum = bytes.fold(self.sum, mix);
+        let accepted = check(group, sheet.as_slice()) == Verdict::Accepted;
+        let rounds = rounds(group, &mut lent).unwrap_or(0);
+        self.looks = self.looks.wrapping_add(shared.looks);
+        self.rounds = self.rounds.wrapping_add(rounds);
+        self.accepted = self.accepted.wrapping_add(u64::from(accepted));
+        Ok(Some(sheet))
     }
-    for rent in &rents[0..2 * n] {
-        sum = mix(sum, *rent);
-    }
-    for byte in written {
-        sum = mix(sum, *byte as u64);
-    }
-    sheets.extend_from_slice(written)?;
-    let accepted = match check(group, written) {
-        Verdict::Accepted => 1,
-        _ => 0,
-    };
-    let rounds = run_rows(group, true, &mut rooms, &mut work);
-    Ok(Answers {
-        looks: so_far.looks.wrapping_add(shared.looks),
-        rounds: so_far.rounds.wrapping_add(rounds),
-        accepted: so_far.accepted.wrapping_add(accepted),
-        sum,
-    })
 }
 
-// Groups of n of one kind: what came out of them on standard output, and how long the fastest of the passes took on standard error.
-fn time_kind(
-    rt: &HostRuntime,
+// Groups of n of one kind, with their sheets, and what came out of them.
+fn answer_kind(
+    heap: Global,
     n: u8,
     kind: Kind,
     count: u64,
-    passes: u64,
-    seen: &mut u64,
-) -> io::Result<()> {
-    let mut seed = n as u64;
-    let mut groups = Vec::new(rt.alloc());
+) -> Result<(Vec<Case>, Answers), AllocError> {
+    let mut seed = Seed(u64::from(n));
+    let mut answers = Answers::default();
+    let mut cases = Vec::new(heap);
     for _ in 0..count {
-        push_group(&mut seed, n, kind, &mut groups)?;
+        let group = kind.house(heap, &mut seed, n)?.bytes(heap)?;
+        if let Some(sheet) = answers.take(heap, group.as_slice())? {
+            cases.push(Case { group, sheet })?;
+        }
     }
-    let len = 5 + 4 * (n as usize * n as usize);
-    let mut sheets = Vec::new(rt.alloc());
-    let mut answers = Answers {
-        looks: 0,
-        rounds: 0,
-        accepted: 0,
-        sum: 0,
-    };
-    for group in groups.as_slice().chunks_exact(len) {
-        answers = answer(group, &mut sheets, answers)?;
+    Ok((cases, answers))
+}
+
+// Times cases, one after the other. `seen` takes their answers, so that none is left out as unused.
+#[derive(Drop)]
+struct Stopwatch<'a> {
+    rt: &'a HostRuntime,
+    seen: u64,
+}
+
+impl Stopwatch<'_> {
+    // How long all cases take, in nanoseconds.
+    fn time<F: FnMut(&Case) -> Result<u64, Refusal>>(
+        &mut self,
+        cases: &[Case],
+        mut answer: F,
+    ) -> io::Result<u64>
+        requires { F.IsAlwaysCallable answer }
+    {
+        let start = Instant::now(self.rt)?;
+        for case in cases {
+            self.seen = self.seen.wrapping_add(answer(case).unwrap_or(0));
+        }
+        let took = start.elapsed(self.rt)?;
+        Ok(u64::try_from(took.as_nanos()).unwrap_or(u64::MAX))
     }
-    let Answers {
-        looks,
-        rounds,
-        accepted,
-        sum,
-    } = answers;
-    let name = kind.name();
-    println!(rt;
-        "n {n} {name}: houses {count} looks {looks} rounds {rounds} accepted {accepted} sum {sum}"
-    )?;
-    let all = groups.as_slice();
-    let sheet_len = sheet_len((n as usize).min(MOST_PEOPLE));
-    let mut best = time_pass(rt, all, len, sheets.as_slice(), sheet_len, seen)?;
-    for _ in 1..passes {
-        best = faster(
-            best,
-            time_pass(rt, all, len, sheets.as_slice(), sheet_len, seen)?,
-        );
+
+    fn time_pass(&mut self, cases: &[Case]) -> io::Result<Times> {
+        let mut lent = Lent::filled(0);
+        Ok(Times {
+            read: self.time(cases, |case| {
+                Group::validate(case.group.as_slice())?;
+                Ok(1)
+            })?,
+            sharing: self.time(cases, |case| looks(case.group.as_slice(), &mut lent))?,
+            rows: self.time(cases, |case| rounds(case.group.as_slice(), &mut lent))?,
+            share: self.time(cases, |case| Ok(lent.share(case.group.as_slice())?.looks))?,
+            check: self.time(cases, |case| {
+                let verdict = check(case.group.as_slice(), case.sheet.as_slice());
+                Ok(u64::from(verdict == Verdict::Accepted))
+            })?,
+        })
     }
-    tell_times(rt, n, kind, count, best)
+
+    // The fastest of the passes, part by part.
+    fn time_passes(&mut self, cases: &[Case], passes: u64) -> io::Result<Times> {
+        let mut best = self.time_pass(cases)?;
+        for _ in 1..passes {
+            best = best.faster(self.time_pass(cases)?);
+        }
+        Ok(best)
+    }
+
+    // Groups of n of one kind: what came out of them on standard output, and how long they took on standard error.
+    fn time_kind(&mut self, n: u8, kind: Kind, count: u64, passes: u64) -> io::Result<()> {
+        let rt = self.rt;
+        let (cases, answers) = answer_kind(rt.alloc(), n, kind, count)?;
+        println!(rt;
+            "n {n} {kind}: houses {count} looks {} rounds {} accepted {} sum {}",
+            answers.looks, answers.rounds, answers.accepted, answers.sum
+        )?;
+        self.time_passes(cases.as_slice(), passes)?
+            .tell(rt, n, kind, count)
+    }
 }
 
 // `count` groups of 2, 6, 12 and 24 people, or of n alone, of every kind.
@@ -273,13 +214,13 @@ pub(super) fn time_all(
     passes: u64,
     only: Option<u64>,
 ) -> io::Result<()> {
-    let mut seen = 0;
+    let mut watch = Stopwatch { rt, seen: 0 };
     for n in [2u8, 6, 12, 24] {
-        if only.unwrap_or(n as u64) == n as u64 {
+        if only.is_none_or(|only| only == u64::from(n)) {
             for kind in KINDS {
-                time_kind(rt, n, kind, count, passes, &mut seen)?;
+                watch.time_kind(n, kind, count, passes)?;
             }
         }
     }
-    eprintln!(rt; "seen {seen}")
+    eprintln!(rt; "seen {}", watch.seen)
 }

@@ -1,64 +1,39 @@
 // Checks a sheet against a group: whether its rents are the fairest, or its first fault.
 #![tactic(auto)]
 
-use files::{printed, read_file, read_group};
+use files::{Failure, arguments, ended, helped, misused, printed, read_file, read_group};
 use sheet::{Verdict, check};
 use std::process::ExitCode;
-use std::{env, io};
 
-fn help(rt: &HostRuntime) -> io::Result<()> {
-    println!(rt; "usage: check GROUP SHEET")?;
-    println!(rt;
-        "Prints 'accepted' where the sheet shows the fairest rents of the group; else 'refused NUMBER at PLACE', for the first"
-    )?;
-    println!(rt;
-        "fault of the group or of the sheet, and ends with status 1. docs/SHEET.md has the numbers and the places."
-    )
+const USAGE: &str = "usage: check GROUP SHEET";
+
+const HELP: &str = "\
+Prints 'accepted' where the sheet shows the fairest rents of the group; else 'refused NUMBER at PLACE', for the first
+fault of the group or of the sheet, and ends with status 1. docs/SHEET.md has the numbers and the places.";
+
+// Tells the verdict, which is what the program ends with.
+fn judge<'a>(rt: &HostRuntime, group: &'a str, sheet: &'a str) -> Result<ExitCode, Failure<'a>> {
+    let group = read_group(rt, group)?;
+    let sheet = read_file(rt, sheet)?;
+    let verdict = check(&group, &sheet);
+    printed(println!(rt; "{verdict}"))?;
+    Ok(match verdict {
+        Verdict::Accepted => ExitCode::SUCCESS,
+        _ => ExitCode::FAILURE,
+    })
 }
 
-// Whether the sheet was accepted, and that could be told.
-fn judge(rt: &HostRuntime, group: &str, sheet: &str) -> io::Result<bool> {
-    let Some(group) = read_group(rt, "check", group)? else {
-        return Ok(false);
-    };
-    let Some(sheet) = read_file(rt, "check", sheet)? else {
-        return Ok(false);
-    };
-    let verdict = check(group.as_slice(), sheet.as_slice());
-    let told = printed(rt, "check", println!(rt; "{verdict}"))?;
-    Ok(told && matches!(verdict, Verdict::Accepted))
-}
-
-fn usage(rt: &HostRuntime) -> io::Result<bool> {
-    eprintln!(rt; "usage: check GROUP SHEET")?;
-    Ok(false)
-}
-
-fn run(rt: &HostRuntime) -> io::Result<bool> {
-    let mut args = env::args(rt)?;
-    let _ = args.next();
-    let Some(group) = args.next() else {
-        return usage(rt);
-    };
-    if group.as_str() == "--help" {
-        return printed(rt, "check", help(rt));
+fn run<'a>(rt: &HostRuntime, words: &'a [String]) -> Result<ExitCode, Failure<'a>> {
+    match words {
+        [first, ..] if first.as_str() == "--help" => helped(rt, USAGE, HELP),
+        [group, sheet] => judge(rt, group, sheet),
+        _ => misused(rt, USAGE),
     }
-    let Some(sheet) = args.next() else {
-        return usage(rt);
-    };
-    if args.next().is_some() {
-        return usage(rt);
-    }
-    judge(rt, group.as_str(), sheet.as_str())
 }
 
 fn main(rt: HostRuntime) -> ExitCode {
-    match run(&rt) {
-        Ok(true) => ExitCode::SUCCESS,
-        Ok(false) => ExitCode::FAILURE,
-        Err(e) => {
-            let _ = eprintln!(rt; "check: {e}");
-            ExitCode::FAILURE
-        }
+    match arguments(&rt) {
+        Ok(words) => ended(&rt, "check", run(&rt, &words)),
+        Err(e) => ended(&rt, "check", Err(e)),
     }
 }

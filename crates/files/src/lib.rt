@@ -1,20 +1,106 @@
-// How the programs read and write: a line on standard error where something can't be, and files written whole or not at all. No contract can speak of
-// what a disk holds or a stream was sent, so most of these functions have none; .ci/programs tries them. A line on standard error begins with the
-// program's name.
+// How the programs read, write and end: files are read no further than can be right and written whole or not at all, and what a program failed by is
+// one line on standard error. No contract can speak of what a disk holds, a stream was sent or a program was called with, so some of these functions
+// have none; .ci/programs tries them.
 #![tactic(auto)]
 
-ghost use Rattle.std.specs.Prelude.{◌≡◌, ◌≤◌, true, IfSome, IfOk, Some, None, Ok, vec_len, MatchResult, ◌≢◌};
+ghost use Rattle.std.specs.Prelude.{◌≡◌, ◌≤◌, IfOk, IfErr, Ok, Err, vec_len, MatchResult};
+ghost use Rattle.std.specs.Process.{exit_status};
+ghost use Rattle.files.specs.declared.Failure.TheVariants.{CannotRead, CannotWrite, CannotPrint, Other};
 
 use std::alloc::Global;
 use std::fs::{File, OpenOptions};
 use std::io::{Error, ErrorKind, Read, Write};
-use std::{fs, io};
+use std::process::ExitCode;
+use std::{env, fmt, fs, io};
 
 // More than any group, sheet or sensible text has.
 const MOST_BYTES: usize = 1048576;
 
 // How many names beside a file are tried.
 const MOST_NAMES: u32 = 9;
+
+// Why a program could not do what it was called for.
+#[derive(Clone, Copy, Debug)]
+pub enum Failure<'a> {
+    CannotRead {
+        name: &'a str,
+        error: io::Error,
+    },
+    CannotWrite {
+        name: &'a str,
+        error: io::Error,
+    },
+    CannotPrint(io::Error),
+    // What a program makes was to take the place of what it is made from.
+    TakesPlace {
+        made: &'static str,
+        source: &'static str,
+        path: &'a str,
+    },
+    Other(io::Error),
+}
+
+impl fmt::Display for Failure<'_> {
+    fn fmt<W: fmt::Write>(&self, f: &mut fmt::Formatter<W>) -> fmt::Result {
+        match self {
+            Failure::CannotRead { name, error } => write!(f, "cannot read {name}: {error}"),
+            Failure::CannotWrite { name, error } => write!(f, "cannot write {name}: {error}"),
+            Failure::CannotPrint(error) => write!(f, "cannot write to standard output: {error}"),
+            Failure::TakesPlace { made, source, path } => {
+                write!(f, "the {made} can't take the place of its {source}, {path}")
+            }
+            Failure::Other(error) => write!(f, "{error}"),
+        }
+    }
+}
+
+impl std::error::Error for Failure<'_> {}
+
+impl From<io::Error> for Failure<'_> {
+    ghost from_gives = { λ e failure. failure ≡ Other e };
+
+    fn from(e: io::Error) -> Self {
+        Failure::Other(e)
+    }
+}
+
+// The words that a program was called with, after its own name. What they are no contract can say.
+pub fn arguments(rt: &HostRuntime) -> io::Result<Vec<String>> {
+    Ok(env::args(rt)?.skip(1).collect(rt.alloc())?)
+}
+
+// Ends a program that was called in a way that it does not take.
+pub fn misused<'a>(rt: &impl Eprint, usage: &str) -> Result<ExitCode, Failure<'a>>
+    ensures { IfOk result (λ code. exit_status code ≡ 1) }
+{
+    eprintln!(rt; "{usage}")?;
+    Ok(ExitCode::FAILURE)
+}
+
+// Ends a program that was asked what it does.
+pub fn helped<'a>(rt: &impl Print, usage: &str, help: &str) -> Result<ExitCode, Failure<'a>>
+    ensures { IfOk result (λ code. exit_status code ≡ 0) }
+{
+    printed(println!(rt; "{usage}\n{help}"))?;
+    Ok(ExitCode::SUCCESS)
+}
+
+// Ends a program. Where standard error takes nothing, the status alone tells that it failed.
+pub fn ended<E: fmt::Display + Drop>(
+    rt: &impl Eprint,
+    program: &str,
+    outcome: Result<ExitCode, E>,
+) -> ExitCode
+    ensures { MatchResult outcome (λ code. result ≡ code) (λ _. exit_status result ≡ 1) }
+{
+    match outcome {
+        Ok(code) => code,
+        Err(failure) => {
+            let _ = eprintln!(rt; "{program}: {failure}");
+            ExitCode::FAILURE
+        }
+    }
+}
 
 // The first bytes of an input, more of them than a group has: what a group is refused for stands there, however long the input goes on.
 pub fn read_front<R: Read + Drop>(heap: Global, from: R) -> io::Result<Vec<u8>>
@@ -26,84 +112,54 @@ pub fn read_front<R: Read + Drop>(heap: Global, from: R) -> io::Result<Vec<u8>>
     Ok(bytes)
 }
 
-// All bytes of an input. One that goes on and on is refused, before it fills the memory.
-pub fn read_all<R: Read + Drop>(heap: Global, from: R) -> io::Result<Vec<u8>>
-    ensures { IfOk result (λ bytes. vec_len bytes ≤ 1048576) }
+// All bytes of an input of which these are the first. One that goes on and on is refused, before it fills the memory.
+pub fn whole(front: Vec<u8>) -> io::Result<Vec<u8>>
+    ensures { MatchResult result (λ bytes. (bytes ≡ front) × (vec_len front ≤ 1048576)) (λ _. 1048577 ≤ vec_len front) }
 {
-    let bytes = read_front(heap, from)?;
-    if bytes.len() > MOST_BYTES {
+    if front.len() > MOST_BYTES {
         let words = "it has more than 1048576 bytes";
         return Err(Error::new(ErrorKind::FileTooLarge, words));
     }
-    Ok(bytes)
+    Ok(front)
 }
 
-// What was read; none, with a line on standard error, where it could not be.
-pub fn reported(
-    rt: &HostRuntime,
-    program: &str,
-    name: &str,
-    outcome: io::Result<Vec<u8>>,
-) -> io::Result<Option<Vec<u8>>>
-    ensures { MatchResult outcome (λ bytes. result ≡ Ok (Some bytes)) (λ _. IfOk result (λ found. found ≡ None)) }
+// What was read, or that the input with this name can't be.
+pub fn reported(name: &str, outcome: io::Result<Vec<u8>>) -> Result<Vec<u8>, Failure<'_>>
+    ensures { MatchResult outcome (λ bytes. result ≡ Ok bytes) (λ error. result ≡ Err (CannotRead name.entry error)) }
 {
-    match outcome {
-        Ok(bytes) => Ok(Some(bytes)),
-        Err(e) => {
-            eprintln!(rt; "{program}: cannot read {name}: {e}")?;
-            Ok(None)
-        }
-    }
+    outcome.map_err(|error| Failure::CannotRead { name, error })
 }
 
-fn open_and_read(rt: &HostRuntime, path: &str) -> io::Result<Vec<u8>>
-    ensures { IfOk result (λ bytes. vec_len bytes ≤ 1048576) }
-{
-    read_all(rt.alloc(), File::open(rt, path)?)
-}
-
-fn open_and_read_front(rt: &HostRuntime, path: &str) -> io::Result<Vec<u8>>
+// The first bytes of a file, for a group.
+pub fn read_group<'a>(rt: &HostRuntime, path: &'a str) -> Result<Vec<u8>, Failure<'a>>
     ensures { IfOk result (λ bytes. vec_len bytes ≤ 1048577) }
 {
-    read_front(rt.alloc(), File::open(rt, path)?)
+    let front = File::open(rt, path).and_then(|file| read_front(rt.alloc(), file));
+    reported(path, front)
 }
 
-// All bytes of the file; none, with a line on standard error, where it can't be read.
-pub fn read_file(rt: &HostRuntime, program: &str, path: &str) -> io::Result<Option<Vec<u8>>>
-    ensures { IfOk result (λ found. IfSome found (λ bytes. vec_len bytes ≤ 1048576)) }
+// All bytes of a file.
+pub fn read_file<'a>(rt: &HostRuntime, path: &'a str) -> Result<Vec<u8>, Failure<'a>>
+    ensures { IfOk result (λ bytes. vec_len bytes ≤ 1048576) }
 {
-    reported(rt, program, path, open_and_read(rt, path))
+    reported(path, whole(read_group(rt, path)?))
 }
 
-// The same of its first bytes, for a group.
-pub fn read_group(rt: &HostRuntime, program: &str, path: &str) -> io::Result<Option<Vec<u8>>>
-    ensures { IfOk result (λ found. IfSome found (λ bytes. vec_len bytes ≤ 1048577)) }
-{
-    reported(rt, program, path, open_and_read_front(rt, path))
-}
-
-// Whether what was printed went out; else a line on standard error.
-pub fn printed(rt: &HostRuntime, program: &str, outcome: io::Result<()>) -> io::Result<bool>
-    ensures { MatchResult outcome (λ _. result ≡ Ok true) (λ _. result ≢ Ok true) }
+// That what was printed went out, or why not.
+pub fn printed<'a>(outcome: io::Result<()>) -> Result<(), Failure<'a>>
+    ensures { MatchResult outcome (λ _. result ≡ Ok tt) (λ error. result ≡ Err (CannotPrint error)) }
 {
     match outcome {
-        Ok(()) => Ok(true),
-        Err(e) => {
-            eprintln!(rt; "{program}: cannot write to standard output: {e}")?;
-            Ok(false)
-        }
+        Ok(()) => Ok(()),
+        Err(error) => Err(Failure::CannotPrint(error)),
     }
 }
 
-// Whether the bytes could be written to the file; else a line on standard error.
-pub fn written(rt: &HostRuntime, program: &str, path: &str, bytes: &[u8]) -> io::Result<bool> {
-    match write_whole(rt, path, bytes) {
-        Ok(()) => Ok(true),
-        Err(e) => {
-            eprintln!(rt; "{program}: cannot write {path}: {e}")?;
-            Ok(false)
-        }
-    }
+// Writes the bytes to a file.
+pub fn write_file<'a>(rt: &HostRuntime, path: &'a str, bytes: &[u8]) -> Result<(), Failure<'a>>
+    ensures { IfErr result (λ failure. (error : _) × failure ≡ CannotWrite path.entry error) }
+{
+    write_whole(rt, path, bytes).map_err(|error| Failure::CannotWrite { name: path, error })
 }
 
 // A pipe or a device takes the bytes as they come, and keeps its place. A file that is there keeps its permissions, and is left alone where it may not be
@@ -111,13 +167,10 @@ pub fn written(rt: &HostRuntime, program: &str, path: &str, bytes: &[u8]) -> io:
 // the link's own place would cut it off from what it led to.
 fn write_whole(rt: &HostRuntime, path: &str, bytes: &[u8]) -> io::Result<()> {
     let found = match fs::symlink_metadata(rt, path) {
-        Ok(found) => found,
-        Err(e) => {
-            if e.kind() == ErrorKind::NotFound {
-                return put_in_place(rt, path, bytes, false);
-            }
-            return Err(e);
+        Err(e) if e.kind() == ErrorKind::NotFound => {
+            return put_in_place(rt, path, bytes, |_, _| Ok(()));
         }
+        found => found?,
     };
     // Opened so, what is there does not change; a folder is refused.
     let mut there = OpenOptions::new().write(true).open(rt, path)?;
@@ -128,20 +181,29 @@ fn write_whole(rt: &HostRuntime, path: &str, bytes: &[u8]) -> io::Result<()> {
         let words = "it is a symbolic link; name the file that it leads to";
         return Err(Error::new(ErrorKind::InvalidInput, words));
     }
-    put_in_place(rt, path, bytes, true)
+    put_in_place(rt, path, bytes, |file, beside| {
+        // A copy takes over the permissions, and fails where the file may not be read.
+        fs::copy(rt, path, beside)?;
+        file.set_len(0)
+    })
 }
 
 // Writes beside the path first; what is there then takes the name.
-fn put_in_place(rt: &HostRuntime, path: &str, bytes: &[u8], replaces: bool) -> io::Result<()> {
+fn put_in_place<F: FnOnce(&mut File, &str) -> io::Result<()>>(
+    rt: &HostRuntime,
+    path: &str,
+    bytes: &[u8],
+    take_over: F,
+) -> io::Result<()>
+    requires { F.IsAlwaysCallable take_over }
+{
     let (file, beside) = make_beside(rt, path)?;
     let name = beside.as_str();
-    match fill_and_rename(rt, file, name, path, bytes, replaces) {
-        Ok(()) => Ok(()),
-        Err(e) => {
-            let _ = fs::remove_file(rt, name);
-            Err(e)
-        }
+    let done = fill_and_rename(rt, file, name, path, bytes, take_over);
+    if done.is_err() {
+        let _ = fs::remove_file(rt, name);
     }
+    done
 }
 
 // A new file beside the path, and its name. It is one that nobody has, so that no file of the user's is touched.
@@ -149,12 +211,8 @@ fn make_beside(rt: &HostRuntime, path: &str) -> io::Result<(File, String)> {
     for k in 1..=MOST_NAMES {
         let name = format!(in rt.alloc(); "{path}.part{k}")?;
         match File::create_new(rt, name.as_str()) {
-            Ok(file) => return Ok((file, name)),
-            Err(e) => {
-                if e.kind() != ErrorKind::AlreadyExists {
-                    return Err(e);
-                }
-            }
+            Err(e) if e.kind() == ErrorKind::AlreadyExists => {}
+            file => return Ok((file?, name)),
         }
     }
     let words = "the names beside it are taken, .part1 to .part9";
@@ -162,20 +220,31 @@ fn make_beside(rt: &HostRuntime, path: &str) -> io::Result<(File, String)> {
 }
 
 // A full disk may show only when the bytes reach it, so they are waited for before the old file goes.
-fn fill_and_rename(
+fn fill_and_rename<F: FnOnce(&mut File, &str) -> io::Result<()>>(
     rt: &HostRuntime,
     mut file: File,
     beside: &str,
     path: &str,
     bytes: &[u8],
-    replaces: bool,
-) -> io::Result<()> {
-    if replaces {
-        // A copy takes over the permissions, for which std has no other way.
-        fs::copy(rt, path, beside)?;
-        file.set_len(0)?;
-    }
+    take_over: F,
+) -> io::Result<()>
+    requires { F.IsAlwaysCallable take_over }
+{
+    take_over(&mut file, beside)?;
     file.write_all(bytes)?;
     file.sync_all()?;
     fs::rename(rt, beside, path)
+}
+
+#[cfg(test)]
+mod tests {
+    use super::*;
+    use std::test::Fail;
+
+    // That memory is there no contract can say.
+    #[test]
+    fn words_are_found(rt: HostRuntime) -> Result<(), Fail> {
+        let _ = arguments(&rt)?;
+        Ok(())
+    }
 }

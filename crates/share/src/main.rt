@@ -1,116 +1,89 @@
 // Reads a group, and tells who has which room and what they pay; writes the sheet that shows it.
 #![tactic(auto)]
 
-use files::{printed, read_front, read_group, reported, written};
+use files::{
+    Failure, arguments, ended, helped, misused, printed, read_front, read_group, reported,
+    write_file,
+};
 use rooms::group::MOST_PEOPLE;
 use sheet::report::{JointLine, LeastLine, person_line};
 use sheet::sharing::{MOST_RENTS, MOST_SHEET, MOST_WORK, Shared};
 use sheet::{share, sheet_len};
+use std::io;
 use std::process::ExitCode;
-use std::{env, io};
 
-fn help(rt: &HostRuntime) -> io::Result<()> {
-    println!(rt; "usage: share [GROUP [SHEET]]")?;
-    println!(rt;
-        "Reads a group's bytes from the file GROUP, or from standard input where none or - is given, and tells"
-    )?;
-    println!(rt;
-        "who has which room and what they pay: the joint worth, a line for each person, and n times what the one"
-    )?;
-    println!(rt;
-        "who has least gains. Writes the sheet that shows it to the file SHEET. A group that is not taken prints"
-    )?;
-    println!(rt; "'refused NUMBER at PLACE', writes nothing, and ends with status 1.")
-}
+const USAGE: &str = "usage: share [GROUP [SHEET]]";
 
-// The bytes of the named file, or of the standard input; none, with a line on standard error, where they can't be read.
-fn read_named(rt: &HostRuntime, path: &str) -> io::Result<Option<Vec<u8>>> {
+const HELP: &str = "\
+Reads a group's bytes from the file GROUP, or from standard input where none or - is given, and tells
+who has which room and what they pay: the joint worth, a line for each person, and n times what the one
+who has least gains. Writes the sheet that shows it to the file SHEET. A group that is not taken prints
+'refused NUMBER at PLACE', writes nothing, and ends with status 1.";
+
+// The bytes of the named file, or of the standard input.
+fn read_named<'a>(rt: &HostRuntime, path: &'a str) -> Result<Vec<u8>, Failure<'a>> {
     if path == "-" {
-        let outcome = read_front(rt.alloc(), rt.stdin());
-        return reported(rt, "share", "standard input", outcome);
+        return reported("standard input", read_front(rt.alloc(), rt.stdin()));
     }
-    read_group(rt, "share", path)
+    read_group(rt, path)
 }
 
-// Writes the sheet of a group where a file is named, and then tells the share. Whether all went well: the lines come last, so that status 0 says that
+// Writes the sheet of a group where a file is named, and then tells the share, or why there is none. The lines come last, so that status 0 says that
 // the sheet is there and the lines are out.
-fn answer(rt: &HostRuntime, group: &[u8], sheet_path: Option<String>) -> io::Result<bool> {
+fn answer<'a>(
+    rt: &HostRuntime,
+    group: &'a str,
+    sheet_path: Option<&'a str>,
+) -> Result<ExitCode, Failure<'a>> {
+    let group = read_named(rt, group)?;
     let mut rooms = [0; MOST_PEOPLE];
     let mut rents = [0; MOST_RENTS];
     let mut work = [0; MOST_WORK];
     let mut sheet = [0; MOST_SHEET];
-    match share(group, &mut rooms, &mut rents, &mut work, &mut sheet) {
+    match share(&group, &mut rooms, &mut rents, &mut work, &mut sheet) {
         Ok(shared) => {
             if let Some(path) = sheet_path {
-                let bytes = &sheet[0..sheet_len(shared.people)];
-                if !written(rt, "share", path.as_str(), bytes)? {
-                    return Ok(false);
-                }
+                write_file(rt, path, &sheet[..sheet_len(shared.people)])?;
             }
-            printed(rt, "share", tell(rt, &shared, &rooms, &rents))
+            printed(tell(rt, &shared, &rooms, &rents))?;
+            Ok(ExitCode::SUCCESS)
         }
-        Err(e) => {
-            printed(rt, "share", println!(rt; "{e}"))?;
-            Ok(false)
+        Err(refusal) => {
+            printed(println!(rt; "{refusal}"))?;
+            Ok(ExitCode::FAILURE)
         }
     }
 }
 
 // The lines of a share.
-fn tell(rt: &HostRuntime, shared: &Shared, rooms: &[u32], rents: &[u64]) -> io::Result<()> {
-    let n = shared.people;
-    let joint = JointLine(shared.joint);
-    println!(rt; "{joint}")?;
-    for i in 0..n {
-        if let Some(line) = person_line(rooms, rents, n, i) {
-            println!(rt; "{line}")?;
-        }
+fn tell(rt: &impl Print, shared: &Shared, rooms: &[u32], rents: &[u64]) -> io::Result<()> {
+    let people = shared.people;
+    println!(rt; "{}", JointLine(shared.joint))?;
+    for line in (0..people).filter_map(|i| person_line(rooms, rents, people, i)) {
+        println!(rt; "{line}")?;
     }
-    let least = LeastLine {
-        least: shared.least,
-        people: n,
-    };
-    println!(rt; "{least}")
+    let least = shared.least;
+    println!(rt; "{}", LeastLine { least, people })
 }
 
-// Whether all went well, from reading the group on.
-fn share_file(rt: &HostRuntime, path: &str, sheet_path: Option<String>) -> io::Result<bool> {
-    match read_named(rt, path)? {
-        Some(group) => answer(rt, group.as_slice(), sheet_path),
-        None => Ok(false),
+fn run<'a>(rt: &HostRuntime, words: &'a [String]) -> Result<ExitCode, Failure<'a>> {
+    match words {
+        [first, ..] if first.as_str() == "--help" => helped(rt, USAGE, HELP),
+        [] => answer(rt, "-", None),
+        [group] => answer(rt, group, None),
+        [group, sheet] if group == sheet => Err(Failure::TakesPlace {
+            made: "sheet",
+            source: "group",
+            path: sheet,
+        }),
+        [group, sheet] => answer(rt, group, Some(sheet)),
+        _ => misused(rt, USAGE),
     }
-}
-
-fn run(rt: &HostRuntime) -> io::Result<bool> {
-    let mut args = env::args(rt)?;
-    let _ = args.next();
-    let Some(group) = args.next() else {
-        return share_file(rt, "-", None);
-    };
-    if group.as_str() == "--help" {
-        return printed(rt, "share", help(rt));
-    }
-    let sheet = args.next();
-    if args.next().is_some() {
-        eprintln!(rt; "usage: share [GROUP [SHEET]]")?;
-        return Ok(false);
-    }
-    if let Some(path) = &sheet {
-        if path.as_str() == group.as_str() {
-            eprintln!(rt; "share: the sheet can't take the place of its group, {path}")?;
-            return Ok(false);
-        }
-    }
-    share_file(rt, group.as_str(), sheet)
 }
 
 fn main(rt: HostRuntime) -> ExitCode {
-    match run(&rt) {
-        Ok(true) => ExitCode::SUCCESS,
-        Ok(false) => ExitCode::FAILURE,
-        Err(e) => {
-            let _ = eprintln!(rt; "share: {e}");
-            ExitCode::FAILURE
-        }
+    match arguments(&rt) {
+        Ok(words) => ended(&rt, "share", run(&rt, &words)),
+        Err(e) => ended(&rt, "share", Err(e)),
     }
 }

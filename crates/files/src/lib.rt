@@ -69,7 +69,7 @@ pub fn arguments(rt: &HostRuntime) -> io::Result<Vec<String>> {
     Ok(env::args(rt)?.skip(1).collect(rt.alloc())?)
 }
 
-// Ends a program that was called in a way that it does not take.
+// Tells how a program is called, where it was called otherwise; the status to end with.
 pub fn misused<'a>(rt: &impl Eprint, usage: &str) -> Result<ExitCode, Failure<'a>>
     ensures { IfOk result (λ code. exit_status code ≡ 1) }
 {
@@ -77,7 +77,7 @@ pub fn misused<'a>(rt: &impl Eprint, usage: &str) -> Result<ExitCode, Failure<'a
     Ok(ExitCode::FAILURE)
 }
 
-// Ends a program that was asked what it does.
+// Tells what a program does, where it was asked; the status to end with.
 pub fn helped<'a>(rt: &impl Print, usage: &str, help: &str) -> Result<ExitCode, Failure<'a>>
     ensures { IfOk result (λ code. exit_status code ≡ 0) }
 {
@@ -85,7 +85,7 @@ pub fn helped<'a>(rt: &impl Print, usage: &str, help: &str) -> Result<ExitCode, 
     Ok(ExitCode::SUCCESS)
 }
 
-// Ends a program. Where standard error takes nothing, the status alone tells that it failed.
+// The status that a program ends with. What it failed by is one line on standard error; where that takes nothing, the status alone tells of it.
 pub fn ended<E: fmt::Display + Drop>(
     rt: &impl Eprint,
     program: &str,
@@ -123,7 +123,7 @@ pub fn whole(front: Vec<u8>) -> io::Result<Vec<u8>>
     Ok(front)
 }
 
-// What was read, or that the input with this name can't be.
+// What was read of the input with this name.
 pub fn reported(name: &str, outcome: io::Result<Vec<u8>>) -> Result<Vec<u8>, Failure<'_>>
     ensures { MatchResult outcome (λ bytes. result ≡ Ok bytes) (λ error. result ≡ Err (CannotRead name.entry error)) }
 {
@@ -145,7 +145,7 @@ pub fn read_file<'a>(rt: &HostRuntime, path: &'a str) -> Result<Vec<u8>, Failure
     reported(path, whole(read_group(rt, path)?))
 }
 
-// That what was printed went out, or why not.
+// Fails where standard output did not take what was printed.
 pub fn printed<'a>(outcome: io::Result<()>) -> Result<(), Failure<'a>>
     ensures { MatchResult outcome (λ _. result ≡ Ok tt) (λ error. result ≡ Err (CannotPrint error)) }
 {
@@ -188,7 +188,7 @@ fn write_whole(rt: &HostRuntime, path: &str, bytes: &[u8]) -> io::Result<()> {
     })
 }
 
-// Writes beside the path first; what is there then takes the name.
+// Writes into a new file beside the path, which first takes over what it has to.
 fn put_in_place<F: FnOnce(&mut File, &str) -> io::Result<()>>(
     rt: &HostRuntime,
     path: &str,
@@ -197,9 +197,9 @@ fn put_in_place<F: FnOnce(&mut File, &str) -> io::Result<()>>(
 ) -> io::Result<()>
     requires { F.IsAlwaysCallable take_over }
 {
-    let (file, beside) = make_beside(rt, path)?;
+    let (mut file, beside) = make_beside(rt, path)?;
     let name = beside.as_str();
-    let done = fill_and_rename(rt, file, name, path, bytes, take_over);
+    let done = take_over(&mut file, name).and_then(|()| finish(rt, file, name, path, bytes));
     if done.is_err() {
         let _ = fs::remove_file(rt, name);
     }
@@ -219,18 +219,14 @@ fn make_beside(rt: &HostRuntime, path: &str) -> io::Result<(File, String)> {
     Err(Error::new(ErrorKind::AlreadyExists, words))
 }
 
-// A full disk may show only when the bytes reach it, so they are waited for before the old file goes.
-fn fill_and_rename<F: FnOnce(&mut File, &str) -> io::Result<()>>(
+// Fills the file beside, which then takes the name. A full disk may show only when the bytes reach it, so they are waited for before the old file goes.
+fn finish(
     rt: &HostRuntime,
     mut file: File,
     beside: &str,
     path: &str,
     bytes: &[u8],
-    take_over: F,
-) -> io::Result<()>
-    requires { F.IsAlwaysCallable take_over }
-{
-    take_over(&mut file, beside)?;
+) -> io::Result<()> {
     file.write_all(bytes)?;
     file.sync_all()?;
     fs::rename(rt, beside, path)

@@ -45,9 +45,7 @@ impl<'a> Failure<'a> {
     fn of_text(text: &'a str, why: Unmade) -> Self {
         match why {
             Unmade::Wrong(fault) => Failure::Wrong { text, fault },
-            Unmade::OutOfMemory => Failure::Files(files::Failure::Other(io::Error::from(
-                AllocError,
-            ))),
+            Unmade::OutOfMemory => files::Failure::from(io::Error::from(AllocError)).into(),
         }
     }
 }

@@ -5,12 +5,6 @@ use Rattle.assignment.proofs.rounds.Rooms.hand_on.Goals as goal
 pub returns-then-i-p : goal.returns-then-i-p
 returns-then-i-p c = sym (handed_stop _ _ _ _ _ _ c.loop-t-test.true c.if-i-p.true) ∙ c.loop-t.invariant.1
 
-pub exchange-requires : goal.exchange-requires
-exchange-requires c =
-    let h = c.loop-t.invariant.0 in
-    let i = c.requires.parents _ (h.held.into c.args.p c.requires.holds.1) in
-    rw h.long_room (h, c.requires.holds.1, i)
-
 pub loop-t-preserved : goal.loop-t-preserved
 loop-t-preserved c =
     let i = c.requires.parents _ (c.loop-t.invariant.0.held.into c.args.p c.requires.holds.1) in (

@@ -3,17 +3,11 @@ use Rattle.rooms.specs.Format.{house_of}
 use Rattle.assignment.proofs.Whole.{going_none, going_more, going_low}
 use Rattle.assignment.proofs.rounds.place_all.Goals as goal
 
-pub begin-requires : goal.begin-requires
-begin-requires c = rw c.requires.lists.long_persons c.requires.lists
-
 pub loop-p-init : goal.loop-p-init
 loop-p-init c = (
   going_none _ _ _ (λ i r _ _. c.count-p-end.ensures.allowed.small i r) _ _ _ _ (rw c.requires.lists.long_persons at c.begin.ensures),
   c.requires.sizes,
 )
-
-pub round-looks-requires : goal.round-looks-requires
-round-looks-requires c = record { person = omega arith; stands = c.loop-p.invariant.0.stands; sizes = c.loop-p.invariant.1 }
 
 pub loop-p-preserved : goal.loop-p-preserved
 loop-p-preserved c = (

@@ -18,24 +18,11 @@ raise-requires c =
       st.placed.dual.prices,
     )
 
-pub lower-requires : goal.lower-requires
-lower-requires c =
+pub lower-requires-clause-fits : goal.lower-requires-clause-fits
+lower-requires-clause-fits c =
     let st = c.requires.stands in
     let gr = grew_by c.requires.person st.placed c.grow-last.ensures.model in
-    rw st.long_persons (record {
-      sizes = (c.grow-last.ensures.sizes.long_distance, st.long_room, c.requires.person);
-      rooms = st.placed.held.into;
-      fits = (down_fits {m = c.grow-last.result} c.requires.person st.placed gr.ended, own_fits {m = c.grow-last.result} c.requires.person st.placed gr.ended);
-    })
-
-pub exchange-requires : goal.exchange-requires
-exchange-requires c =
-    let st = c.requires.stands in
-    rw st.long_room (
-      record { held = st.placed.held; long_room = st.long_room; long_holder = st.long_holder },
-      c.requires.person,
-      st.placed.held.onto _ c.grow-last.ensures.here.0,
-    )
+    (down_fits {m = c.grow-last.result} c.requires.person st.placed gr.ended, own_fits {m = c.grow-last.result} c.requires.person st.placed gr.ended)
 
 pub hand_on-requires : goal.hand_on-requires
 hand_on-requires c =

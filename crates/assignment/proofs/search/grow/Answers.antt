@@ -5,25 +5,15 @@ use Rattle.assignment.proofs.Growth.{growing_none, growing_fresh, growing_stop, 
 use Rattle.assignment.proofs.Step.{grown_few}
 use Rattle.assignment.proofs.search.grow.Goals as goal
 
-pub start-requires : goal.start-requires
-start-requires c =
-    let st = c.requires.stands in
-    record {
-      person = c.requires.person;
-      ready = record { few = c.count-n.ensures.allowed.few; long_persons = st.long_persons; long_prices = st.long_prices; dual = st.placed.dual };
-      sizes = c.requires.sizes;
-    }
-
 pub loop-k-init : goal.loop-k-init
 loop-k-init c = record {
   sized = c.start.ensures.sizes;
   growing = growing_none c.requires.person c.requires.stands.placed _ _ _ c.start.ensures.near c.start.ensures.by c.start.ensures.fresh;
 }
 
-pub nearest-r-requires : goal.nearest-r-requires
-nearest-r-requires c =
-    let s = c.loop-k.invariant.sized in
-    record { sizes = omega arith; some = rw s.long_turn (growing_fresh c.requires.person c.requires.stands.placed _ _ _ _ c.loop-k.invariant.growing) }
+pub nearest-r-requires-clause-some : goal.nearest-r-requires-clause-some
+nearest-r-requires-clause-some c =
+    rw c.loop-k.invariant.sized.long_turn (growing_fresh c.requires.person c.requires.stands.placed _ _ _ _ c.loop-k.invariant.growing)
 
 pub returns-then-i-p : goal.returns-then-i-p
 returns-then-i-p c =

@@ -7,11 +7,6 @@ use Rattle.assignment.proofs.Growth.{long_list}
 use Rattle.assignment.proofs.Row.{row_end, offered, nearer_by, parents_by}
 use Rattle.assignment.proofs.search.Tree.relax.Goals as goal
 
-pub slice_bounds-row-end : goal.slice_bounds-row-end
-slice_bounds-row-end c =
-    let e : length c.args.self.now.rows.now ≡ c.count-n.result * c.count-n.result = rw c.count-n.ensures.people c.requires.sizes.long_rows in
-    omega (arith, row_end c.args.i c.count-n.result _ (omega arith) e)
-
 pub returns : goal.returns
 returns c =
     let W = worth_at (house_of c.args.group.now.bytes.now) in

@@ -6,11 +6,6 @@ use Rattle.assignment.specs.Search.{offers}
 use Rattle.assignment.proofs.Row.{row_end, offered, filled}
 use Rattle.assignment.proofs.search.Tree.start.Goals as goal
 
-pub slice_bounds-row-end : goal.slice_bounds-row-end
-slice_bounds-row-end c =
-    let e : length c.args.self.now.rows.now ≡ c.count-n.result * c.count-n.result = rw c.count-n.ensures.people c.requires.sizes.long_rows in
-    omega (arith, row_end c.args.p c.count-n.result _ (omega arith) e)
-
 pub returns : goal.returns
 returns c =
     let W = worth_at (house_of c.args.group.now.bytes.now) in

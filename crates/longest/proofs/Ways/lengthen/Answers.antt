@@ -3,7 +3,7 @@ use Rattle.std.proofs.lemmas.Option.{MatchOption-at_some, MatchOption-at_none}
 use Rattle.rooms.specs.Format.{most_worth}
 use Rattle.longest.specs.Run.{nearest}
 use Rattle.longest.proofs.Nearest.{Taken, leads_takes, leads_keeps}
-use Rattle.longest.proofs.Rounds.{run_none, run_break, run_all, rest_small, left_small, round_more}
+use Rattle.longest.proofs.Rounds.{run_break, run_all, rest_small, left_small, round_more}
 use Rattle.longest.proofs.Views.{nothing}
 use Rattle.longest.proofs.Ways.lengthen.Goals as goal
 use Rattle.longest.proofs.Ways.lengthen.Goals.{In-Some, then-offer-rows+then-is_none_or, else-offer-rows, else-offer-rows-via-then-offer-rows+else-is_none_or, else-offer-rows-via-else-offer-rows}
@@ -30,9 +30,6 @@ loop-i-preserved c =
         | else-offer-rows-via-else-offer-rows x ↦ leads_keeps _ _ _ _ found c.loop-i.invariant (λ lt. absurd (omega (arith, x.if-offer-rows.false)))
       ])
     ]
-
-pub longer-init : goal.longer-init
-longer-init c = (run_none _ _ _, refl, c.requires.small)
 
 taken : (c : In-Some) → Taken c.args.self.now.n c.longer.rows c.longer.offers c.in-Some.to c.in-Some.rest
 taken c =

@@ -22,13 +22,16 @@ use Rattle.rents.proofs.Shown.{shown_fairest}
 use Rattle.rents.proofs.Sizes.{rents_roundable}
 use Rattle.cents.proofs.Rounding.{cents_rounded}
 use Rattle.cents.specs.Cents.{Rounded, cents_of}
-use Rattle.sheet.specs.Accepted.{AcceptedFair, AcceptedMeans, AcceptedPayable, AcceptedShown, FairAccepted, NumbersOff, RefusedFalse, RefusedFor, RightCents, RowOff, ShownAccepted, WithoutRoom}
+use Rattle.sheet.specs.Accepted.{AcceptedFair, AcceptedMeans, AcceptedPayable, AcceptedShown, FairAccepted, NumbersOff, Payable, RefusedFalse, RefusedFor, RightCents, RowOff, ShownAccepted, WithoutRoom}
 use Rattle.sheet.specs.Accepted.RefusedFor.{cents, numbers, rents, rooms, rows, ways}
 use Rattle.sheet.specs.declared.entries.Entries.{Entries}
 use Rattle.sheet.specs.Entries.{claimed, entered}
 use Rattle.sheet.specs.Format.{Sheet, sheet_length, sheet_of, signed_at}
 use Rattle.sheet.specs.Judge.{Judgement, cents_fault, judge, judge_read, judge_sheet, place}
 use Rattle.sheet.specs.Judge.Judgement.{accepted, faulty}
+use Rattle.sheet.specs.Verdicts.{meaning}
+use Rattle.sheet.specs.declared.verdict.Verdict.{Verdict}
+use Rattle.sheet.specs.declared.verdict.Verdict.TheVariants.{Accepted}
 use Rattle.sheet.proofs.Priced.{cents_long, rent_at}
 use Rattle.sheet.proofs.Judged.{Clean, View, view}
 use Rattle.sheet.proofs.Judged.View.{at_cents, at_circle, at_length, at_number, at_rent, at_room, at_way, clean}
@@ -292,3 +295,11 @@ accepted_payable group sheet e =
     let a = allowed_by group h m.taken_as in
     let r = rents_roundable h c.room c.d c.rents a m.shown.housed (lengths_within h c a m.shown m.means) m.shown.rents in
     record { house = h; taken_as = m.taken_as; settled = m.means.fairest.settled; rounded = subst (λ cs. Rounded h.n h.rent c.rents cs) (sym m.cents) (cents_rounded h.n h.rent c.rents r) }
+
+-- What the verdict tells that is judged so.
+module _ (group sheet : List ℕ) (v : Verdict) (judged : meaning v ≡ judge group sheet) where
+  pub accepted_told : v ≡ Accepted → AcceptedMeans group sheet
+  accepted_told e = accepted_fair group sheet (sym judged ∙ ap meaning e)
+
+  pub payable_told : v ≡ Accepted → Payable group sheet
+  payable_told e = accepted_payable group sheet (sym judged ∙ ap meaning e)

@@ -19,7 +19,8 @@ fn sum_off(person: i64, room: i64, worth: u32, own: bool) -> bool
 }
 
 impl Statement<'_> {
-    // The first person who has no room, or an earlier person's.
+    // The first person who has no room, or an earlier person's. By index, since of an array behind a reference in a struct the proof knows no length, and
+    // so not where a part of it ends.
     pub fn first_room(&self) -> Option<usize>
         ensures { result ≡ found (room_fault (house_in self.now) (claimed_by self.now)) (house_in self.now).n }
     {

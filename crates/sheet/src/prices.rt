@@ -31,7 +31,7 @@ impl Sharing<'_> {
         i128::from(self.stated.group.worth(i, self.room(i))) - self.stated.length(i)
     }
 
-    // What is spare when everybody gains the length of their row.
+    // What is spare when everybody gains the length of their row. A loop, since an iterator's sum of signed numbers has no bound.
     fn surplus(&self) -> i128
         ensures value { result ≡ spare (house_in self.now.stated) (claimed_by self.now.stated).room (claimed_by self.now.stated).d }
         ensures within { Within (2 ^ 70) result }

@@ -5,27 +5,6 @@ use Rattle.assignment.specs.Answer.{work_for}
 use Rattle.sheet.proofs.Laid.{clean_again, front_as, sheet_as}
 use Rattle.sheet.proofs.sharing.solve.Goals as goal
 
-pub rows_of-requires : goal.rows_of-requires
-rows_of-requires c =
-    let h = house_of c.args.group.now.bytes.now in
-    let a = c.count-n.ensures.allowed in
-    record {
-      rooms = (front_as h a _ _ _ c.count-n.ensures.people c.assign-found.ensures.sharing, a);
-      numbers = (c.assign-found.ensures.persons, c.assign-found.ensures.prices);
-      enough = omega arith;
-    }
-
-pub price-outcome-requires : goal.price-outcome-requires
-price-outcome-requires c =
-    let h = house_of c.args.group.now.bytes.now in
-    let a = c.count-n.ensures.allowed in
-    record {
-      rooms = (front_as h a _ _ _ c.count-n.ensures.people c.assign-found.ensures.sharing, a);
-      lengths = c.rows_of.ensures.lengths;
-      measured = c.rows_of.ensures.measured;
-      enough = omega arith;
-    }
-
 pub returns : goal.returns
 returns c =
     let h = house_of c.args.group.now.bytes.now in

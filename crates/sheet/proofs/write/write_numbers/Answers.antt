@@ -1,13 +1,9 @@
-use Rattle.std.proofs.Common.{ℕ, ◌+◌, ◌*◌, List, [], get_or, refl, ap, ◌∙◌, arith}
+use Rattle.std.proofs.Common.{ℕ, ◌+◌, ◌*◌, List, get_or, refl, ap, ◌∙◌, arith}
 use lib.Seq.{paste}
-use Rattle.std.proofs.lemmas.List.Edits.{paste_none}
 use Rattle.whole.proofs.Eight.{eight}
 use Rattle.sheet.specs.Write.{number_part}
 use Rattle.sheet.proofs.Pieces.{pieces_more, put_paste}
 use Rattle.sheet.proofs.write.write_numbers.Goals as goal
-
-pub loop-i-init : goal.loop-i-init
-loop-i-init c = paste_none c.args.sheet.now c.args.at []
 
 pub loop-i-preserved : goal.loop-i-preserved
 loop-i-preserved c =

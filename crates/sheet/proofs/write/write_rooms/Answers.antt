@@ -1,14 +1,10 @@
-use Rattle.std.proofs.Common.{ℕ, ◌+◌, ◌*◌, List, [], get_or, refl, ap, ◌∙◌, arith}
+use Rattle.std.proofs.Common.{ℕ, ◌+◌, ◌*◌, List, get_or, refl, ap, ◌∙◌, arith}
 use lib.Seq.{paste}
-use Rattle.std.proofs.lemmas.List.Edits.{paste_none}
 use Rattle.whole.specs.Bytes.{put}
 use Rattle.sheet.specs.Write.{room_part}
 use Rattle.sheet.proofs.Pieces.{pieces_more, room_paste}
 use Rattle.sheet.proofs.Sheets.{room_part_long}
 use Rattle.sheet.proofs.write.write_rooms.Goals as goal
-
-pub loop-r-init : goal.loop-r-init
-loop-r-init c = paste_none c.args.sheet.now (10 * c.args.n) []
 
 pub loop-r-preserved : goal.loop-r-preserved
 loop-r-preserved c =

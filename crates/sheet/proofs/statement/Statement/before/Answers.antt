@@ -4,11 +4,6 @@ use Rattle.sheet.specs.Statement.{house_in}
 use Rattle.sheet.proofs.Lengths.{prior_read}
 use Rattle.sheet.proofs.statement.Statement.before.Goals as goal
 
-pub returns-then-before : goal.returns-then-before
-returns-then-before c =
-    let w : length c.args.self.now.entries.now.before ≡ most_people = search rules in
-    prior_read c.args.self.now.entries.now.before (house_in c.args.self.now).n c.args.i c.requires (omega arith) ∙ c.if-before.true
-
 pub returns-else-before : goal.returns-else-before
 returns-else-before c =
     let w : length c.args.self.now.entries.now.before ≡ most_people = search rules in

@@ -9,20 +9,6 @@ use Rattle.sheet.proofs.Entered.{bits_differ}
 use Rattle.sheet.proofs.Priced.{cents_test}
 use Rattle.sheet.proofs.statement.Terms.cents_off.Goals as goal
 
-pub plus-down-requires : goal.plus-down-requires
-plus-down-requires c =
-    let v = c.own_less.ensures.within in
-    let w = c.args.self.now.reckoned.thin in
-    (record { low = omega (arith, ints); high = omega (arith, ints) }, record { low = omega (arith, ints); high = omega (arith, ints) })
-
-pub plus-cents-requires : goal.plus-cents-requires
-plus-cents-requires c =
-    let x = c.cent_more.ensures.within in
-    let d = c.plus-down.ensures.value in
-    let v = c.own_less.ensures.within in
-    let w = c.args.self.now.reckoned.thin in
-    (record { low = omega (arith, ints); high = omega (arith, ints) }, record { low = omega (arith, ints); high = omega (arith, ints) })
-
 pub returns : goal.returns
 returns c =
     let s = c.args.self.now.sharing.stated in

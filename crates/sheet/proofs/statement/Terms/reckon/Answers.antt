@@ -11,12 +11,6 @@ times-requires c =
     let few = c.count-n.ensures.allowed.few in
     (record { low = omega (arith, ints); high = omega (arith, ints) }, omega arith)
 
-pub minus-missing-requires : goal.minus-missing-requires
-minus-missing-requires c =
-    let v = c.surplus-surplus.ensures.within in
-    let w = c.times.ensures.within in
-    (record { low = omega (arith, ints); high = omega (arith, ints) }, record { low = omega (arith, ints); high = omega (arith, ints) })
-
 pub invariant_of-result : goal.invariant_of-result
 invariant_of-result c =
     let v = c.surplus-surplus.ensures.within in

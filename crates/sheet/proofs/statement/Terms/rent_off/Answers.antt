@@ -8,18 +8,6 @@ use Rattle.sheet.proofs.Entered.{bits_differ}
 use Rattle.sheet.proofs.Priced.{rent_test}
 use Rattle.sheet.proofs.statement.Terms.rent_off.Goals as goal
 
-pub times-requires : goal.times-requires
-times-requires c =
-    let v = c.own_less.ensures.within in
-    let few = c.count-n.ensures.allowed.few in
-    (record { low = omega (arith, ints); high = omega (arith, ints) }, omega arith)
-
-pub minus-due-requires : goal.minus-due-requires
-minus-due-requires c =
-    let v = c.args.self.now.reckoned.small in
-    let w = c.times.ensures.within in
-    (record { low = omega (arith, ints); high = omega (arith, ints) }, record { low = omega (arith, ints); high = omega (arith, ints) })
-
 pub returns : goal.returns
 returns c =
     let s = c.args.self.now.sharing.stated in

@@ -21,6 +21,7 @@ use rounds::{Rooms, Standing, place_all};
 use search::Tree;
 
 // What shows that a sharing is best: a number for each person and each room, 0 past the n of them; and how many looks were taken.
+// No heap in the libraries, so arrays of the most people.
 #[derive(Clone, Copy)]
 pub struct Assignment {
     pub looks: u64,

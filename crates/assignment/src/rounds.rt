@@ -14,6 +14,7 @@ use rooms::Group;
 use rooms::group::MOST_WORTH;
 
 // Who holds which room, and who holds each, in slices of the lent work, whose numbers are u64. Persons who are not placed yet hold rooms too.
+// How long the slices are is said by clauses (Listed, Sized): a ghost field beside a &mut is not covered by the borrow checker.
 #[derive(Drop)]
 pub struct Rooms<'a> {
     pub room: &'a mut [u64],

@@ -145,7 +145,7 @@ pub fn read_file<'a>(rt: &HostRuntime, path: &'a str) -> Result<Vec<u8>, Failure
     reported(path, whole(read_group(rt, path)?))
 }
 
-// Fails where standard output did not take what was printed.
+// Fails where standard output did not take what was printed. No map_err: the borrow checker does not cover a variant with a lifetime passed as a function.
 pub fn printed<'a>(outcome: io::Result<()>) -> Result<(), Failure<'a>>
     ensures { MatchResult outcome (λ _. result ≡ Ok tt) (λ error. result ≡ Err (CannotPrint error)) }
 {

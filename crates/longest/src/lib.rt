@@ -33,6 +33,7 @@ pub fn work_len(n: usize) -> usize
 }
 
 // The lengths d of the longest rows, and who stands before each person in them: nothing and nobody past the n people. And how many rounds it took.
+// No heap in the libraries, so arrays of the most people.
 #[derive(Clone, Copy)]
 pub struct LongestRows {
     pub d: [u64; MOST_PEOPLE],

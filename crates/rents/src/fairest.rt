@@ -12,6 +12,7 @@ use rooms::Group;
 use rooms::group::MOST_PEOPLE;
 
 // The joint worth; n × the least gain; n × the gain of each person, 0 past the n of them.
+// No heap in the libraries, so arrays of the most people.
 #[derive(Clone, Copy)]
 pub struct Outcome {
     pub joint: i64,

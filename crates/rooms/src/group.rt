@@ -122,7 +122,7 @@ impl<'a> Group<'a> {
         worth_word(self.bytes, i * self.n + r)
     }
 
-    // What each room is worth to person i, and nothing past the n rooms.
+    // What each room is worth to person i, and nothing past the n rooms: an array by value, since the libraries take no heap.
     pub fn row(&self, i: usize) -> [u32; MOST_PEOPLE]
         requires { i < (house self.now).n }
         ensures whole { result ≡ row_of (house self.now) i }

@@ -81,6 +81,7 @@ fn run<'a>(rt: &HostRuntime, words: &'a [String]) -> Result<ExitCode, Failure<'a
     }
 }
 
+// The words stay here, since a failure borrows them.
 fn main(rt: HostRuntime) -> ExitCode {
     match arguments(&rt) {
         Ok(words) => ended(&rt, "share", run(&rt, &words)),

@@ -1,4 +1,4 @@
-// What the checker answers.
+// What the checker answers: an enum of its own and no Result, since the accepted case too is a verdict with its meaning.
 ghost use Rattle.std.specs.Prelude.{◌≡◌, Some};
 ghost use Rattle.sheet.specs.Judge.{place};
 ghost use Rattle.sheet.specs.Texts.{fault_in, judgement_text};

@@ -30,6 +30,7 @@ fn help(rt: &HostRuntime) -> io::Result<()> {
     println!(rt; "no word: compare.")
 }
 
+// Not by the crate files, which tells of standard output in other words where it fails.
 fn usage(rt: &HostRuntime) -> io::Result<ExitCode> {
     eprintln!(rt; "usage: trials [compare | time COUNT PASSES [N] | load COUNT]")?;
     Ok(ExitCode::FAILURE)

@@ -42,7 +42,8 @@ fn floor_of(rent: u64, n: usize) -> i64
     i64::from_bits(rent).floor_div(n as u32)
 }
 
-// How many cents are missing when every room pays its rent rounded toward lower numbers.
+// How many cents are missing when every room pays its rent rounded toward lower numbers. A loop, since the library's sum of signed numbers asks for a
+// bound that it has no way to learn.
 fn missing_cents(rent: u32, rents: &[u64]) -> i64
     requires { Roundable (length rents.now) rent (held (length rents.now) rents.now) }
     ensures { result ≡ missing_cents (length rents.now) rent (held (length rents.now) rents.now) }

@@ -6,10 +6,9 @@ ghost use Rattle.std.specs.Prelude.{◌≡◌, ℕ, ◌+◌, ◌-◌, ◌*◌, �
 ghost use Rattle.std.specs.List.{range_with_len};
 ghost use Rattle.rooms.specs.Format.{most_people, most_worth};
 ghost use Rattle.rooms.specs.Rows.{Longest, signed};
-ghost use Rattle.rooms.specs.Before.{RowsShown};
+ghost use Rattle.rooms.specs.Before.{RowsShown, nobody};
 ghost use Rattle.rooms.specs.View.{house};
 ghost use Rattle.assignment.specs.Search.{at};
-ghost use Rattle.rooms.specs.Before.{nobody};
 ghost use Rattle.longest.specs.Run.{in_table, Table, through, first_offers, run, start};
 ghost use Rattle.longest.specs.View.{lefts, befores, offered, standing};
 ghost use Rattle.assignment.specs.Promise.{Solved};
@@ -42,6 +41,7 @@ pub struct LongestRows {
 }
 
 // The longest rows of a sharing with numbers that show it best. All else is done on work, of which the first work_len(n) are 0 after.
+// The numbers come one by one, and not as an Assignment, since a caller may have them from elsewhere.
 pub fn longest_rows(
     group: &Group,
     rooms: &[u32],
@@ -234,6 +234,7 @@ impl Ways<'_> {
     }
 
     // Makes rows longer, one in a round: that of the person whose offer leaves least, until no offer makes one longer. How many rounds it took.
+    // Nested loops over people, left by the label when nothing gets longer, as the project wants this search to be read.
     fn lengthen(&self, rows: &mut [Row], offers: &mut [Row]) -> usize
         requires sizes { (length rows.old ≡ self.now.n) × (length offers.old ≡ self.now.n) }
         requires small { (i : ℕ) → i < self.now.n → at (lefts rows.old) i ≤ most_worth }

@@ -20,9 +20,6 @@ pub record Paid (h : House) (room : List ℕ) (d : List ℤ) (before : List ℕ)
   pub past : (r : ℕ) → h.n ≤ r → get_or rents r 0 ≡ get_or before r 0
 
 module _ (h : House) (room : List ℕ) (d : List ℤ) (before : List ℕ) (housed : Housed h room) (fits : h.n ≤ length before) where
-  pub paid_none : Paid h room d before 0 before
-  paid_none = record { whole = refl; each = λ k l. absurd (omega arith); past = λ r l. refl }
-
   -- Nobody before has i's room, so theirs stay as written.
   pub paid_more : (i : ℕ) (rents : List ℕ) (x : ℕ) → i < h.n → x ≡ of_z w64 (due h room d i) → Paid h room d before i rents →
       Paid h room d before (i + 1) (set rents (room_of room i) x)

@@ -90,7 +90,7 @@ impl<'g, 'r> Sharing<'g, 'r> {
     }
 }
 
-// What everybody's own room is worth to them, together.
+// What everybody's own room is worth to them, together. A loop, since the library's sum of signed numbers asks for a bound that it has no way to learn.
 fn joint_worth(group: &Group, rooms: &[u32]) -> i64
     requires { Housed (house group.now) rooms.now }
     ensures { result ≡ joint_of (house group.now) rooms.now }
@@ -102,7 +102,7 @@ fn joint_worth(group: &Group, rooms: &[u32]) -> i64
     worths
 }
 
-// The lengths of all longest rows, together.
+// The lengths of all longest rows, together: a loop for the same reason.
 fn all_lengths(d: &[u64]) -> i64
     requires { (length d.now ≤ most_people) × ((i : ℕ) → slice_index d.now i ≤ most_worth) }
     ensures { result ≡ total (λ i. number (signed d.now) i) (length d.now) }

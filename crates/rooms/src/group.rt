@@ -68,7 +68,7 @@ impl<'a> Group<'a> {
         if bytes.len() == 0 {
             return Err(Refusal::Length(0));
         }
-        let n = bytes[0] as usize;
+        let n = usize::from(bytes[0]);
         if n == 0 || n > MOST_PEOPLE {
             return Err(Refusal::People);
         }
@@ -95,7 +95,7 @@ impl<'a> Group<'a> {
     {
         Group {
             bytes,
-            n: bytes[0] as usize,
+            n: usize::from(bytes[0]),
         }
     }
 

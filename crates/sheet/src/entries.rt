@@ -9,7 +9,7 @@ use rooms::group::MOST_PEOPLE;
 
 // The columns of a sheet: for each person the room, the person before and the length of the longest row, and a number for the joint worth; for each
 // room the rent, its cents, and a number for the joint worth. Nothing past the people.
-// No heap in the libraries, so arrays of the most people.
+// Columns, and no array of lines: each test reads whole columns, and so do the definitions; arrays of the most people, with no heap.
 #[derive(Clone, Copy)]
 pub struct Entries {
     pub room: [u8; MOST_PEOPLE],

@@ -13,7 +13,7 @@ use super::statement::{Sharing, Terms};
 use rooms::group::MOST_PEOPLE;
 use whole::Whole;
 
-// One cent more for the first rooms, as many as cents are missing.
+// One cent more for the first rooms, as many as cents are missing. Wider than where cents are written, since a sheet may hold any numbers.
 fn cent_more(r: usize, missing: i128) -> i128
     ensures value { result ≡ (if int_lt (pos r) missing then pos 1 else pos 0) }
     ensures within { Within 1 result }
@@ -43,7 +43,7 @@ impl Sharing<'_> {
         total - i128::from(self.stated.group.rent())
     }
 
-    // Who has each room.
+    // Who has each room. By index, since the place that is written is another than the person.
     fn tenants(&self) -> [u8; MOST_PEOPLE]
         ensures { (r : ℕ) → r < (house_in self.now.stated).n → slice_index result r ≡ whose (house_in self.now.stated) (claimed_by self.now.stated).room r }
     {

@@ -1,7 +1,7 @@
 // The public call that shares a house: on lent slices, all or nothing.
 ghost use Rattle.std.specs.Prelude.{◌≡◌, ◌-◌, ◌*◌, ◌≤◌, ◌++◌, length, drop, replicate, IfOk, MatchResult};
 ghost use Rattle.rooms.specs.Before.{nobody};
-ghost use Rattle.rooms.specs.Format.{most_people, Allowed, house_of, read, taken, refused};
+ghost use Rattle.rooms.specs.Format.{most_people, Allowed, house_of, taken, refused};
 ghost use Rattle.rooms.specs.House.{joint as joint_of};
 ghost use Rattle.rooms.specs.Refused.{number_of, place_of};
 ghost use Rattle.rooms.specs.Rows.{signed};
@@ -63,7 +63,7 @@ pub fn share_stands()
     ensures least { AlwaysLeast }
 {}
 
-// Whether slices of these lengths are enough for a group, or which is too short.
+// Whether slices of these lengths are enough for a group, or which is too short. Four lengths, since how long the lent slices are is all that it asks.
 fn admit(
     group: &Group,
     rooms: usize,

@@ -1,4 +1,4 @@
-// What the checker answers: an enum of its own and no Result, since the accepted case too is a verdict with its meaning.
+// What the checker answers.
 ghost use Rattle.std.specs.Prelude.{◌≡◌, Some};
 ghost use Rattle.sheet.specs.Judge.{place};
 ghost use Rattle.sheet.specs.Texts.{fault_in, judgement_text};
@@ -7,7 +7,7 @@ ghost use Rattle.sheet.specs.Verdicts.{meaning};
 use rooms::Refusal;
 use std::fmt;
 
-// An enum of its own, and no Result: to accept is an answer like the others, each with its number.
+// An enum, and no Result, as a rule of the project: to accept is a verdict like the others.
 #[derive(Clone, Copy, PartialEq, Eq, Debug)]
 pub enum Verdict {
     Accepted,

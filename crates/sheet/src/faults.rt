@@ -19,15 +19,15 @@ fn sum_off(person: i64, room: i64, worth: u32, own: bool) -> bool
 }
 
 impl Statement<'_> {
-    // The first person who has no room, or an earlier person's. By index, since of an array behind a reference in a struct the proof knows no length, and
-    // so not where a part of it ends.
+    // The first person who has no room, or an earlier person's.
     pub fn first_room(&self) -> Option<usize>
         ensures { result ≡ found (room_fault (house_in self.now) (claimed_by self.now)) (house_in self.now).n }
     {
         let n = self.group.count();
+        let entries = self.entries;
         let mut taken = [false; MOST_PEOPLE];
-        for i in 0..n {
-            let room = usize::from(self.entries.room[i]);
+        for (i, room) in entries.room[..n].iter().enumerate() {
+            let room = usize::from(*room);
             if room >= n || taken[room] {
                 return Some(i);
             }

@@ -1,12 +1,13 @@
 -- What is found of a test, from what is known of each number, and back.
-use Rattle.std.proofs.Common.{◌≡◌, ℕ, ◌<◌, Bool, true, false, cond, List, Option, Some, None, Bor, sym, ap, ◌∙◌, refl}
+use Rattle.std.proofs.Common.{◌≡◌, ℕ, ◌<◌, ◌≤◌, Bool, true, false, cond, List, Option, Some, None, Bor, sym, ap, ◌∙◌, refl, arith}
 use Rattle.std.proofs.lemmas.Bool.{ltb-true}
+use Rattle.std.proofs.lemmas.Iterator.{first_from_Range}
 use Rattle.std.proofs.iter.Yields.{nat_range_steps}
 use Rattle.std.specs.Bool.{⊤}
 use Rattle.std.specs.Fn.{CalledAt}
 use Rattle.std.specs.Iterator.{YieldsThen}
 use Rattle.std.specs.List.{FoldsTo}
-use Rattle.std.specs.Option.{MatchOption, is_some, option_map}
+use Rattle.std.specs.Option.{MatchOption, option_map}
 use Rattle.std.specs.declared.ops.Range.{Range}
 use denote.Param.Members.{Mut}
 use Rattle.rooms.specs.First.{first, found, some}
@@ -42,13 +43,6 @@ module _ (t : ℕ → Bool) (n : ℕ) where
       let l = ltb-true _ _ a.0 in
       (rw a.1 l, rw a.1 (first_at t n l))
 
-  is_some_found : is_some (found t n) ≡ some t n
-  is_some_found = go (some t n) refl
-    where
-      go : (b : Bool) → some t n ≡ b → is_some (cond b (Some (first t n)) None) ≡ b
-      go true u = refl
-      go false u = refl
-
 -- What `find` over the numbers below n answers, where the closure is the test, and n is written otherwise.
 pub found_below : {F : Type 0} {g : Mut F (Bor ℕ × Unit {0}) Bool} (t : ℕ → Bool) (n m : ℕ) (u : Range ℕ) (f : F) (r : Option ℕ) →
     (xs : List ℕ) × (j : F) × YieldsThen nat_range_steps (record { start = 0; end = n }) xs r u × FoldsTo (λ p x q. CalledAt g p x false q) f xs j ×
@@ -56,9 +50,18 @@ pub found_below : {F : Type 0} {g : Mut F (Bor ℕ × Unit {0}) Bool} (t : ℕ �
     ((x : ℕ) (b : Bool) (q : F) → CalledAt g f x b q → (q ≡ f) × (b ≡ t x)) → r ≡ found t m
 found_below t n m u f r ran e test = found_from_Range t n u f r ran test ∙ ap (found t) e
 
--- Whether one is found.
-pub some_found : (t : ℕ → Bool) (n : ℕ) (o : Option ℕ) (b : Bool) → o ≡ found t n → b ≡ is_some o → b ≡ some t n
-some_found t n o b e f = f ∙ ap is_some e ∙ is_some_found t n
+-- The same where the closure is the test at the numbers below n.
+pub found_within : {F : Type 0} {g : Mut F (Bor ℕ × Unit {0}) Bool} (t : ℕ → Bool) (n : ℕ) (u : Range ℕ) (f : F) (r : Option ℕ) →
+    (xs : List ℕ) × (j : F) × YieldsThen nat_range_steps (record { start = 0; end = n }) xs r u × FoldsTo (λ p x q. CalledAt g p x false q) f xs j ×
+    MatchOption r ⊤ (λ x. (h : F) × CalledAt g j x true h) →
+    ((x : ℕ) (b : Bool) (q : F) → CalledAt g f x b q → (q ≡ f) × (x < n → b ≡ t x)) → r ≡ found t n
+found_within t n u f r ran test =
+    go r (first_from_Range _ u f r (λ x. x < n → t x ≡ true) (λ x. x < n → t x ≡ false) ran (λ x q k l. sym ((test x true q k).1 l)) (λ x q k. let a = test x false q k in (a.0, λ l. sym (a.1 l))))
+  where
+    go : (r : Option ℕ) →
+        MatchOption r ((k : ℕ) → 0 ≤ k → k < n → k < n → t k ≡ false) (λ i. (0 ≤ i) × (i < n) × (i < n → t i ≡ true) × ((k : ℕ) → 0 ≤ k → k < i → k < n → t k ≡ false)) → r ≡ found t n
+    go None h = none_found t n (λ k l. h k (omega arith) l l)
+    go (Some i) h = found_is t n i h.1 (h.2 h.1) (λ k l. h.3 k (omega arith) l (omega (arith, h.1)))
 
 -- A pair is found where its first number is, with the second that is found with it.
 module _ (t : ℕ → ℕ → Bool) (n : ℕ) where

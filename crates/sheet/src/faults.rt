@@ -5,6 +5,7 @@ ghost use Rattle.rents.specs.Faults.{room_fault, number_fault};
 ghost use Rattle.sheet.specs.Pairs.{found_pair};
 ghost use Rattle.sheet.specs.Statement.{claimed_by, house_in};
 
+use super::pairs::first_pair;
 use super::statement::Statement;
 use rooms::group::MOST_PEOPLE;
 use whole::wide_sum;
@@ -51,20 +52,10 @@ impl Statement<'_> {
         )
     }
 
-    // The first room whose number and that of person i are at fault.
-    fn first_number(&self, i: usize) -> Option<usize>
-        requires { i < (house_in self.now).n }
-        ensures { result ≡ found (number_fault (house_in self.now) (claimed_by self.now) i) (house_in self.now).n }
-    {
-        (0..self.group.count()).find(|r| self.number_off(i, *r))
-    }
-
-    // The first person with such a room, and the room.
+    // The first person with a room at which their numbers are at fault, and the room.
     pub fn first_numbers(&self) -> Option<(usize, usize)>
         ensures { result ≡ found_pair (number_fault (house_in self.now) (claimed_by self.now)) (house_in self.now).n }
     {
-        let person = (0..self.group.count()).find(|i| self.first_number(*i).is_some())?;
-        let room = self.first_number(person)?;
-        Some((person, room))
+        first_pair(self.group.count(), |i, r| self.number_off(i, r))
     }
 }

@@ -5,6 +5,7 @@ pub mod checker;
 pub mod columns;
 mod entries;
 mod faults;
+mod pairs;
 mod prices;
 pub mod report;
 mod rows;

@@ -10,6 +10,7 @@ ghost use Rattle.sheet.specs.Entries.{Linked};
 ghost use Rattle.sheet.specs.Pairs.{found_pair};
 ghost use Rattle.sheet.specs.Statement.{claimed_by, house_in};
 
+use super::pairs::first_pair;
 use super::statement::{Sharing, Statement};
 use longest::NOBODY;
 
@@ -114,20 +115,10 @@ impl Sharing<'_> {
         self.stated.length(i) < self.reach(k, i)
     }
 
-    // The first person to whom the way from k leads to more.
-    fn first_way(&self, k: usize) -> Option<usize>
-        requires { k < (house_in self.now.stated).n }
-        ensures { result ≡ found (way_fault (house_in self.now.stated) (claimed_by self.now.stated) k) (house_in self.now.stated).n }
-    {
-        (0..self.stated.group.count()).find(|i| self.way_off(k, *i))
-    }
-
     // The first person from whom a way leads to more, and to whom.
     pub fn first_ways(&self) -> Option<(usize, usize)>
         ensures { result ≡ found_pair (way_fault (house_in self.now.stated) (claimed_by self.now.stated)) (house_in self.now.stated).n }
     {
-        let from = (0..self.stated.group.count()).find(|k| self.first_way(*k).is_some())?;
-        let to = self.first_way(from)?;
-        Some((from, to))
+        first_pair(self.stated.group.count(), |k, i| self.way_off(k, i))
     }
 }

@@ -33,6 +33,21 @@ fn offer(mine: [u32; MOST_PEOPLE], base: u64, prices: &[u64], row: &mut [u64])
     }
 }
 
+// Person i's row of all rows is written: what i offers at distance d.
+// Who reads it then lends it by &mut: a & is not covered by the borrow checker where other fields of the tree are lent beside it.
+fn write_row(rows: &mut [u64], group: &Group, i: usize, d: u64, standing: &Standing)
+    requires person { (i < (house group.now).n) × (d ≤ 2 * most_worth) }
+    requires ready { Ready (house group.now).n most_worth (worth_at (house group.now)) standing.now.persons.now standing.now.prices.now }
+    requires sizes { length rows.old ≡ (house group.now).n * (house group.now).n }
+    ensures { rows.new
+        ≡ with_row (house group.now).n i rows.old (offers (worth_at (house group.now)) (house group.now).n standing.now.persons.now standing.now.prices.now i d) }
+{
+    let n = group.count();
+    let mine = group.row(i);
+    let row = &mut rows[i * n..i * n + n];
+    offer(mine, d + standing.persons[i], standing.prices, row);
+}
+
 // Person i's row of offers is taken where it is lower.
 fn merge(row: &[u64], i: usize, distance: &mut [u64], parent: &mut [u64])
     requires { (length distance.old ≡ length row.now) × (length parent.old ≡ length row.now) }
@@ -61,17 +76,14 @@ impl Tree<'_> {
         requires person { p < (house group.now).n }
         requires ready { Ready (house group.now).n most_worth (worth_at (house group.now)) standing.now.persons.now standing.now.prices.now }
         requires sizes { Sized (house group.now).n self.old }
-        ensures row { self.new.rows.now
-            ≡ with_row (house group.now).n p self.old.rows.now (offers (worth_at (house group.now)) (house group.now).n standing.now.persons.now standing.now.prices.now p 0) }
         ensures near { self.new.distance.now ≡ offers (worth_at (house group.now)) (house group.now).n standing.now.persons.now standing.now.prices.now p 0 }
         ensures by { self.new.parent.now ≡ list_of (λ _. p) (house group.now).n }
         ensures fresh { self.new.turn.now ≡ list_of (λ _. 0) (house group.now).n }
         ensures sizes { Sized (house group.now).n self.new }
     {
         let n = group.count();
-        let mine = group.row(p);
+        write_row(self.rows, group, p, 0, standing);
         let row = &mut self.rows[p * n..p * n + n];
-        offer(mine, standing.persons[p], standing.prices, row);
         self.distance.copy_from_slice(row);
         self.parent.fill(p as u64);
         self.turn.fill(0);
@@ -82,8 +94,6 @@ impl Tree<'_> {
         requires person { (i < (house group.now).n) × (d ≤ 2 * most_worth) }
         requires ready { Ready (house group.now).n most_worth (worth_at (house group.now)) standing.now.persons.now standing.now.prices.now }
         requires sizes { Sized (house group.now).n self.old }
-        ensures row { self.new.rows.now
-            ≡ with_row (house group.now).n i self.old.rows.now (offers (worth_at (house group.now)) (house group.now).n standing.now.persons.now standing.now.prices.now i d) }
         ensures near { self.new.distance.now
             ≡ nearer (house group.now).n (offers (worth_at (house group.now)) (house group.now).n standing.now.persons.now standing.now.prices.now i d) self.old.distance.now }
         ensures by { self.new.parent.now
@@ -92,9 +102,8 @@ impl Tree<'_> {
         ensures sizes { Sized (house group.now).n self.new }
     {
         let n = group.count();
-        let mine = group.row(i);
+        write_row(self.rows, group, i, d, standing);
         let row = &mut self.rows[i * n..i * n + n];
-        offer(mine, d + standing.persons[i], standing.prices, row);
         merge(row, i, self.distance, self.parent);
     }
 

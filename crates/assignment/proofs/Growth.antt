@@ -5,8 +5,7 @@ use Rattle.std.proofs.lemmas.List.FromFn.{length-map-range_with_len, get_or-map-
 use Rattle.assignment.specs.Search.{at, list_of, offer_of, offers, nearer, parents, nearest_of, Tree, tree, grow_from, tree_of}
 use Rattle.assignment.specs.Between.{Placed}
 use Rattle.assignment.specs.declared.rounds.Standing.{Standing}
-use Rattle.assignment.specs.declared.search.Tree.{Tree as TreeSlices}
-use Rattle.assignment.specs.Slices.{Sized}
+use Rattle.assignment.specs.declared.slices.Tree.{Tree as TreeSlices}
 use Rattle.assignment.proofs.Invariant.{Looked, Started, Grown, Marked, Ended}
 use Rattle.assignment.proofs.Near.{Nearest, nearest_is}
 use Rattle.assignment.proofs.Step.{grown_none, grown_more, grown_few}
@@ -140,5 +139,5 @@ module _ {n H : ℕ} {W : ℕ → ℕ → ℕ} {p : ℕ} {u v room holder : List
 
 -- The same of the slices, with their lengths.
 pub record GrowingTree (n : ℕ) (W : ℕ → ℕ → ℕ) (p : ℕ) (x : Standing) (t : TreeSlices) (k : ℕ) : Type 0 where
-  pub sized : Sized n t
+  pub people : t.n ≡ n
   pub growing : Growing n W p x.persons.now x.prices.now x.rooms.room.now x.rooms.holder.now t.distance.now t.parent.now t.turn.now k

@@ -1,8 +1,8 @@
 -- The slices of work, as the code lends them: what stands between two rounds, and the tree of a round. Assumes nothing: these are definitions.
-use Rattle.std.specs.Prelude.{◌≡◌, ℕ, ◌*◌, length}
+use Rattle.std.specs.Prelude.{◌≡◌, ℕ, length}
 use Rattle.assignment.specs.declared.rounds.Rooms.{Rooms as RoomSlices}
 use Rattle.assignment.specs.declared.rounds.Standing.{Standing}
-use Rattle.assignment.specs.declared.search.Tree.{Tree as TreeSlices}
+use Rattle.assignment.specs.declared.slices.Tree.{Tree as TreeSlices}
 use Rattle.assignment.specs.Search.{at, Tree, tree}
 use Rattle.assignment.specs.Run.{Rooms, held, State}
 use Rattle.assignment.specs.Between.{Held}
@@ -25,13 +25,6 @@ pub record Listed (n : ℕ) (x : Standing) : Type 0 where
   pub long_prices : length x.prices.now ≡ n
   pub long_room : length x.rooms.room.now ≡ n
   pub long_holder : length x.rooms.holder.now ≡ n
-
--- A row for each of n persons, and a place for each of n rooms.
-pub record Sized (n : ℕ) (x : TreeSlices) : Type 0 where
-  pub long_rows : length x.rows.now ≡ n * n
-  pub long_distance : length x.distance.now ≡ n
-  pub long_parent : length x.parent.now ≡ n
-  pub long_turn : length x.turn.now ≡ n
 
 -- The tree that ends at a room, whose turn counts who joined.
 abbrev pub tree_at : ℕ → TreeSlices → Tree

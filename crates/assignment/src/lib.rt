@@ -14,11 +14,12 @@ use rooms::group::MOST_PEOPLE;
 
 mod rounds;
 mod search;
+mod slices;
 #[cfg(test)]
 mod tests;
 
 use rounds::{Rooms, Standing, place_all};
-use search::Tree;
+use slices::Tree;
 
 // What shows that a sharing is best: a number for each person and each room, 0 past the n of them; and how many looks were taken.
 // No heap in the libraries, so arrays of the most people.
@@ -77,6 +78,7 @@ fn solve(group: &Group, rooms: &mut [u32], work: &mut [u64]) -> Assignment
         rooms: Rooms { room, holder },
     };
     let mut tree = Tree {
+        n,
         rows,
         distance,
         parent,

@@ -6,15 +6,17 @@ ghost use Rattle.rooms.specs.Format.{most_worth};
 ghost use Rattle.rooms.specs.View.{house};
 ghost use Rattle.assignment.specs.Search.{at};
 ghost use Rattle.assignment.specs.Run.{raised, lowered, swapped, handed, round_of, looks_in, beginning, after, looks_to};
-ghost use Rattle.assignment.specs.Slices.{rooms_of, Holding, state_of, Listed, Sized};
+ghost use Rattle.assignment.specs.Slices.{rooms_of, Holding, state_of, Listed};
 ghost use Rattle.assignment.specs.Between.{Stands};
 
-use super::search::{Tree, grow};
+use super::search::grow;
+use super::slices::Tree;
 use rooms::Group;
 use rooms::group::MOST_WORTH;
 
 // Who holds which room, and who holds each, in slices of the lent work, whose numbers are u64. Persons who are not placed yet hold rooms too.
-// How long the slices are is said by clauses (Listed, Sized): a ghost field beside a &mut is not covered by the borrow checker.
+// How long these slices are is said by a clause (Listed): of a struct with a ghost field that lies in another struct, as the Rooms of a Standing, the
+// borrow checker does not cover that a slice is lent, as in count_up(standing.rooms.room).
 #[derive(Drop)]
 pub struct Rooms<'a> {
     pub room: &'a mut [u64],
@@ -85,10 +87,10 @@ fn lower(p: usize, d: u64, distance: &[u64], rooms: &Rooms, persons: &mut [u64])
 fn round(group: &Group, p: usize, standing: &mut Standing, tree: &mut Tree) -> u64
     requires person { p < (house group.now).n }
     requires stands { Stands (house group.now).n most_worth (worth_at (house group.now)) p (state_of standing.old) }
-    requires sizes { Sized (house group.now).n tree.old }
+    requires people { tree.old.n ≡ (house group.now).n }
     ensures model { state_of standing.new ≡ round_of (worth_at (house group.now)) (house group.now).n p (state_of standing.old) }
     ensures count { result ≡ looks_in (worth_at (house group.now)) (house group.now).n p (state_of standing.old) }
-    ensures sizes { Sized (house group.now).n tree.new }
+    ensures people { tree.new.n ≡ (house group.now).n }
 {
     let last = grow(group, p, standing, tree);
     let distance = &*tree.distance;
@@ -125,7 +127,7 @@ fn begin(standing: &mut Standing)
 // All rounds. The count of looks.
 pub fn place_all(group: &Group, standing: &mut Standing, tree: &mut Tree) -> u64
     requires lists { Listed (house group.now).n standing.old }
-    requires sizes { Sized (house group.now).n tree.old }
+    requires people { tree.old.n ≡ (house group.now).n }
     ensures model { state_of standing.new ≡ after (worth_at (house group.now)) (house group.now).n most_worth (house group.now).n }
     ensures count { result ≡ looks_to (worth_at (house group.now)) (house group.now).n most_worth (house group.now).n }
     ensures stands { Stands (house group.now).n most_worth (worth_at (house group.now)) (house group.now).n (state_of standing.new) }

@@ -4,22 +4,13 @@ ghost use Rattle.rooms.specs.House.{worth_at};
 ghost use Rattle.rooms.specs.Format.{most_people, most_worth};
 ghost use Rattle.rooms.specs.View.{house};
 ghost use Rattle.assignment.specs.Search.{at, list_of, offers, with_row, nearer, parents, nearest_of, tree_of};
-ghost use Rattle.assignment.specs.Slices.{state_of, Sized, tree_at};
+ghost use Rattle.assignment.specs.Slices.{state_of, tree_at};
 ghost use Rattle.assignment.specs.Between.{Ready, Stands};
 
 use super::rounds::Standing;
+use super::slices::Tree;
 use rooms::Group;
 use rooms::group::MOST_PEOPLE;
-
-// The tree of a round: a row of offers for each person who joined; and for each room its distance, its parent, and the turn at which it was reached,
-// which is 0 where it is not. A room's turn counts who had joined by then, and rooms are handed on to ever earlier turns.
-#[derive(Drop)]
-pub struct Tree<'a> {
-    pub rows: &'a mut [u64],
-    pub distance: &'a mut [u64],
-    pub parent: &'a mut [u64],
-    pub turn: &'a mut [u64],
-}
 
 // A person's row of offers: for each room the base and the room's number, above the worth.
 fn offer(mine: [u32; MOST_PEOPLE], base: u64, prices: &[u64], row: &mut [u64])
@@ -75,13 +66,13 @@ impl Tree<'_> {
     fn start(&mut self, group: &Group, p: usize, standing: &Standing)
         requires person { p < (house group.now).n }
         requires ready { Ready (house group.now).n most_worth (worth_at (house group.now)) standing.now.persons.now standing.now.prices.now }
-        requires sizes { Sized (house group.now).n self.old }
+        requires people { self.old.n ≡ (house group.now).n }
         ensures near { self.new.distance.now ≡ offers (worth_at (house group.now)) (house group.now).n standing.now.persons.now standing.now.prices.now p 0 }
         ensures by { self.new.parent.now ≡ list_of (λ _. p) (house group.now).n }
         ensures fresh { self.new.turn.now ≡ list_of (λ _. 0) (house group.now).n }
-        ensures sizes { Sized (house group.now).n self.new }
+        ensures people { self.new.n ≡ (house group.now).n }
     {
-        let n = group.count();
+        let n = self.n;
         write_row(self.rows, group, p, 0, standing);
         let row = &mut self.rows[p * n..p * n + n];
         self.distance.copy_from_slice(row);
@@ -93,15 +84,15 @@ impl Tree<'_> {
     fn relax(&mut self, group: &Group, i: usize, d: u64, standing: &Standing)
         requires person { (i < (house group.now).n) × (d ≤ 2 * most_worth) }
         requires ready { Ready (house group.now).n most_worth (worth_at (house group.now)) standing.now.persons.now standing.now.prices.now }
-        requires sizes { Sized (house group.now).n self.old }
+        requires people { self.old.n ≡ (house group.now).n }
         ensures near { self.new.distance.now
             ≡ nearer (house group.now).n (offers (worth_at (house group.now)) (house group.now).n standing.now.persons.now standing.now.prices.now i d) self.old.distance.now }
         ensures by { self.new.parent.now
             ≡ parents (house group.now).n i (offers (worth_at (house group.now)) (house group.now).n standing.now.persons.now standing.now.prices.now i d) self.old.distance.now self.old.parent.now }
         ensures turns { self.new.turn.now ≡ self.old.turn.now }
-        ensures sizes { Sized (house group.now).n self.new }
+        ensures people { self.new.n ≡ (house group.now).n }
     {
-        let n = group.count();
+        let n = self.n;
         write_row(self.rows, group, i, d, standing);
         let row = &mut self.rows[i * n..i * n + n];
         merge(row, i, self.distance, self.parent);
@@ -128,11 +119,11 @@ impl Tree<'_> {
 pub fn grow(group: &Group, p: usize, standing: &Standing, tree: &mut Tree) -> usize
     requires person { p < (house group.now).n }
     requires stands { Stands (house group.now).n most_worth (worth_at (house group.now)) p (state_of standing.now) }
-    requires sizes { Sized (house group.now).n tree.old }
+    requires people { tree.old.n ≡ (house group.now).n }
     ensures here { (result < (house group.now).n) × (at tree.new.turn.now result ≤ p + 1) }
     ensures model { tree_at result tree.new
         ≡ tree_of (worth_at (house group.now)) (house group.now).n p standing.now.persons.now standing.now.prices.now standing.now.rooms.holder.now }
-    ensures sizes { Sized (house group.now).n tree.new }
+    ensures people { tree.new.n ≡ (house group.now).n }
 {
     let n = group.count();
     tree.start(group, p, standing);

@@ -6,14 +6,14 @@ use Rattle.assignment.proofs.rounds.place_all.Goals as goal
 pub loop-p-init : goal.loop-p-init
 loop-p-init c = (
   going_none _ _ _ (λ i r _ _. c.count-p-end.ensures.allowed.small i r) _ _ _ _ (rw c.requires.lists.long_persons at c.begin.ensures),
-  c.requires.sizes,
+  c.requires.people,
 )
 
 pub loop-p-preserved : goal.loop-p-preserved
 loop-p-preserved c = (
   going_more _ _ _ (λ i r _ _. c.count-p-end.ensures.allowed.small i r) _ _ _ _ _ _ _ _ _ _ _ (omega arith) c.loop-p.invariant.0 c.round-looks.ensures.model
       c.round-looks.ensures.count,
-  c.round-looks.ensures.sizes,
+  c.round-looks.ensures.people,
 )
 
 pub overflow_add-looks : goal.overflow_add-looks

@@ -1,4 +1,4 @@
-use Rattle.std.proofs.Common.{arith}
+use Rattle.std.proofs.Common.{◌∙◌, arith}
 use Rattle.rooms.specs.Format.{house_of}
 use Rattle.assignment.specs.Slices.{Holding}
 use Rattle.assignment.proofs.Growth.{grew_by}
@@ -13,7 +13,7 @@ raise-requires c =
     let gr = grew_by c.requires.person st.placed c.grow-last.ensures.model in
     let x = st.placed.dual.persons c.args.p c.requires.person in
     rw st.long_prices (
-      c.grow-last.ensures.sizes.long_distance,
+      c.grow-last.new.tree.long_distance ∙ c.grow-last.ensures.people,
       omega (arith, own_fits {m = c.grow-last.result} c.requires.person st.placed gr.ended),
       st.placed.dual.prices,
     )
@@ -29,7 +29,7 @@ hand_on-requires c =
     let st = c.requires.stands in
     let gr = grew_by c.requires.person st.placed c.grow-last.ensures.model in
     let h : Holding (house_of c.args.group.now.bytes.now).n c.args.standing.now.rooms = record { held = st.placed.held; long_room = st.long_room; long_holder = st.long_holder } in
-    rw c.grow-last.ensures.sizes.long_parent (record {
+    rw (c.grow-last.new.tree.long_parent, c.grow-last.ensures.people) (record {
       holds = (holding_exchanged c.requires.person (st.placed.held.onto _ c.grow-last.ensures.here.0) h c.exchange.ensures, c.requires.person);
       parents = parent_fits {m = c.grow-last.result} c.requires.person st.placed gr.ended;
     })
@@ -40,7 +40,7 @@ returns c =
     let g = c.grow-last.ensures in
     record {
       model = round_is _ _ _ _ _ _ _ _ _ _ _ _ g.model (rw st.long_prices at c.raise.ensures) (rw st.long_persons at c.lower.ensures) c.exchange.ensures
-          (rw g.sizes.long_parent at c.hand_on.ensures);
+          (rw (c.grow-last.new.tree.long_parent, g.people) at c.hand_on.ensures);
       count = rw c.count.ensures.people (round_count _ _ _ _ _ _ _ _ g.model);
-      sizes = record { long_rows = g.sizes.long_rows; long_distance = omega (arith, g.sizes.long_distance); long_parent = omega (arith, g.sizes.long_parent); long_turn = g.sizes.long_turn };
+      people = g.people;
     }

@@ -1,7 +1,7 @@
 use Rattle.std.proofs.Common.{◌∙◌, sym, arith}
 use Rattle.assignment.proofs.Near.{first_some, nearing_none, nearing_taken, nearing_kept, nearing_all}
-use Rattle.assignment.proofs.search.Tree.nearest.Goals as goal
-use Rattle.assignment.proofs.search.Tree.nearest.Goals.{then-turn-eq0+then-self-r, else-turn-eq0, else-turn-eq0-via-then-turn-eq0+else-self-r, else-turn-eq0-via-else-turn-eq0}
+use Rattle.assignment.proofs.slices.Tree.nearest.Goals as goal
+use Rattle.assignment.proofs.slices.Tree.nearest.Goals.{then-turn-eq0+then-self-r, else-turn-eq0, else-turn-eq0-via-then-turn-eq0+else-self-r, else-turn-eq0-via-else-turn-eq0}
 
 pub loop-r-init : goal.loop-r-init
 loop-r-init c = nearing_none _ _ _ (sym c.first_fresh.ensures ∙ c.unwrap-near.ensures)

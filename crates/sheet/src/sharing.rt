@@ -120,8 +120,8 @@ fn price(group: &Group, rooms: &[u32], d: [u64; MOST_PEOPLE], rents: &mut [u64])
     outcome
 }
 
-// The share of a group that is taken, on slices that are long enough. The four stay beside one another: of a struct of slices that are lent to be
-// written no ghost field can say how long they are.
+// The share of a group that is taken, on slices that are long enough. The four stay beside one another: each goes to another call, and no two of them
+// together.
 fn solve(
     group: &Group,
     rooms: &mut [u32],

@@ -4,7 +4,7 @@ use Rattle.std.proofs.lemmas.Bool.{cases_lt, le-leb, lt-leb, cond-true, cond-fal
 use Rattle.std.proofs.lemmas.List.FromFn.{length-map-range_with_len, get_or-map-range_with_len}
 use Rattle.assignment.specs.Search.{at, list_of, offer_of, offers, nearer, parents, nearest_of, Tree, tree, grow_from, tree_of}
 use Rattle.assignment.specs.Between.{Placed}
-use Rattle.assignment.specs.declared.rounds.Standing.{Standing}
+use Rattle.assignment.specs.declared.slices.Standing.{Standing}
 use Rattle.assignment.specs.declared.slices.Tree.{Tree as TreeSlices}
 use Rattle.assignment.proofs.Invariant.{Looked, Started, Grown, Marked, Ended}
 use Rattle.assignment.proofs.Near.{Nearest, nearest_is}

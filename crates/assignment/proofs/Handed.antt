@@ -5,7 +5,7 @@ use Rattle.std.proofs.lemmas.List.Edits.{swapped_from_swap, length-swap}
 use Rattle.assignment.specs.Search.{at}
 use Rattle.assignment.specs.Run.{Rooms, held, swapped, handed}
 use Rattle.assignment.specs.Between.{Held}
-use Rattle.assignment.specs.declared.rounds.Rooms.{Rooms as Lent}
+use Rattle.assignment.specs.declared.slices.Rooms.{Rooms as Lent}
 use Rattle.assignment.specs.Slices.{rooms_of, Holding}
 use Rattle.assignment.proofs.Swap.{held_swapped}
 
@@ -31,7 +31,6 @@ held_exchanged n room holder a b x lr lo ha hb he e =
 
 pub holding_exchanged : {n a b : ℕ} {x y : Lent} → a < n → b < n → Holding n x → rooms_of y ≡ swapped x.room.now x.holder.now a b → Holding n y
 holding_exchanged {n} {a} {b} {x} {y} ha hb h e = record {
-  held = held_exchanged n x.room.now x.holder.now a b (rooms_of y) h.long_room h.long_holder ha hb h.held e;
-  long_room = ap (λ (z : Rooms). length z.room) e ∙ length-swap x.room.now a b ∙ h.long_room;
-  long_holder = ap (λ (z : Rooms). length z.holder) e ∙ length-swap x.holder.now (at x.room.now a) (at x.room.now b) ∙ h.long_holder;
+  held = held_exchanged n x.room.now x.holder.now a b (rooms_of y) h.long (x.listed ∙ h.long) ha hb h.held e;
+  long = ap (λ (z : Rooms). length z.room) e ∙ length-swap x.room.now a b ∙ h.long;
 }

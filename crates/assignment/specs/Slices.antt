@@ -1,7 +1,7 @@
 -- The slices of work, as the code lends them: what stands between two rounds, and the tree of a round. Assumes nothing: these are definitions.
 use Rattle.std.specs.Prelude.{◌≡◌, ℕ, length}
-use Rattle.assignment.specs.declared.rounds.Rooms.{Rooms as RoomSlices}
-use Rattle.assignment.specs.declared.rounds.Standing.{Standing}
+use Rattle.assignment.specs.declared.slices.Rooms.{Rooms as RoomSlices}
+use Rattle.assignment.specs.declared.slices.Standing.{Standing}
 use Rattle.assignment.specs.declared.slices.Tree.{Tree as TreeSlices}
 use Rattle.assignment.specs.Search.{at, Tree, tree}
 use Rattle.assignment.specs.Run.{Rooms, held, State}
@@ -13,18 +13,10 @@ rooms_of x = held x.room.now x.holder.now
 -- Everybody of n holds one room.
 pub record Holding (n : ℕ) (x : RoomSlices) : Type 0 where
   pub held : Held n (at x.room.now) (at x.holder.now)
-  pub long_room : length x.room.now ≡ n
-  pub long_holder : length x.holder.now ≡ n
+  pub long : length x.room.now ≡ n
 
 abbrev pub state_of : Standing → State
 state_of x = record { persons = x.persons.now; prices = x.prices.now; rooms = rooms_of x.rooms }
-
--- A place for each of n persons and rooms.
-pub record Listed (n : ℕ) (x : Standing) : Type 0 where
-  pub long_persons : length x.persons.now ≡ n
-  pub long_prices : length x.prices.now ≡ n
-  pub long_room : length x.rooms.room.now ≡ n
-  pub long_holder : length x.rooms.holder.now ≡ n
 
 -- The tree that ends at a room, whose turn counts who joined.
 abbrev pub tree_at : ℕ → TreeSlices → Tree

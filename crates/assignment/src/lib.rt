@@ -18,8 +18,8 @@ mod slices;
 #[cfg(test)]
 mod tests;
 
-use rounds::{Rooms, Standing, place_all};
-use slices::Tree;
+use rounds::place_all;
+use slices::{Rooms, Standing, Tree};
 
 // What shows that a sharing is best: a number for each person and each room, 0 past the n of them; and how many looks were taken.
 // No heap in the libraries, so arrays of the most people.
@@ -85,11 +85,16 @@ fn solve(group: &Group, rooms: &mut [u32], work: &mut [u64]) -> Assignment
         turn,
     };
     let looks = place_all(group, &mut standing, &mut tree);
-    write_rooms(standing.rooms.room, rooms);
+    let Standing {
+        persons,
+        prices,
+        rooms: Rooms { room, .. },
+    } = standing;
+    write_rooms(room, rooms);
     Assignment {
         looks,
-        persons: array(standing.persons),
-        rooms: array(standing.prices),
+        persons: array(persons),
+        rooms: array(prices),
     }
 }
 

@@ -5,33 +5,24 @@ ghost use Rattle.rooms.specs.House.{worth_at};
 ghost use Rattle.rooms.specs.Format.{most_worth};
 ghost use Rattle.rooms.specs.View.{house};
 ghost use Rattle.assignment.specs.Search.{at};
-ghost use Rattle.assignment.specs.Run.{raised, lowered, swapped, handed, round_of, looks_in, beginning, after, looks_to};
-ghost use Rattle.assignment.specs.Slices.{rooms_of, Holding, state_of, Listed};
+ghost use Rattle.assignment.specs.Run.{held, raised, lowered, swapped, handed, round_of, looks_in, beginning, after, looks_to};
+ghost use Rattle.assignment.specs.Slices.{rooms_of, Holding, state_of};
 ghost use Rattle.assignment.specs.Between.{Stands};
 
 use super::search::grow;
-use super::slices::Tree;
+use super::slices::{Rooms, Standing, Tree};
 use rooms::Group;
 use rooms::group::MOST_WORTH;
 
-// Who holds which room, and who holds each, in slices of the lent work, whose numbers are u64. Persons who are not placed yet hold rooms too.
-// How long these slices are is said by a clause (Listed): of a struct with a ghost field that lies in another struct, as the Rooms of a Standing, the
-// borrow checker does not cover that a slice is lent, as in count_up(standing.rooms.room).
-#[derive(Drop)]
-pub struct Rooms<'a> {
-    pub room: &'a mut [u64],
-    pub holder: &'a mut [u64],
-}
-
-// What stands between two rounds: a number for each person and each room, and who holds which.
-#[derive(Drop)]
-pub struct Standing<'a> {
-    pub persons: &'a mut [u64],
-    pub prices: &'a mut [u64],
-    pub rooms: Rooms<'a>,
-}
-
 impl Rooms<'_> {
+    // Everybody holds the room of their own number.
+    fn begin(&mut self)
+        ensures { rooms_of self.new ≡ held (range_with_len 0 (length self.old.room.now)) (range_with_len 0 (length self.old.room.now)) }
+    {
+        count_up(self.room);
+        count_up(self.holder);
+    }
+
     // Persons a and b exchange rooms.
     fn exchange(&mut self, a: usize, b: usize)
         requires { Holding (length self.old.room.now) self.old × (a < length self.old.room.now) × (b < length self.old.room.now) }
@@ -47,7 +38,8 @@ impl Rooms<'_> {
     fn hand_on(&mut self, p: usize, parent: &[u64])
         requires holds { Holding (length parent.now) self.old × (p < length parent.now) }
         requires parents { (r : ℕ) → r < length parent.now → at parent.now r < length parent.now }
-        ensures { rooms_of self.new ≡ handed p parent.now (length parent.now) (rooms_of self.old) }
+        ensures rooms { rooms_of self.new ≡ handed p parent.now (length parent.now) (rooms_of self.old) }
+        ensures long { length self.new.room.now ≡ length parent.now }
     {
         for _t in 0..parent.len() {
             let i = parent[self.room[p] as usize] as usize;
@@ -115,18 +107,16 @@ fn count_up(places: &mut [u64])
 
 // Before the first round: everybody's number is the highest worth, every room's is 0, and everybody holds the room of their own number.
 fn begin(standing: &mut Standing)
-    requires { Listed (length standing.old.persons.now) standing.old }
     ensures { state_of standing.new ≡ beginning (length standing.old.persons.now) most_worth }
 {
     standing.persons.fill(u64::from(MOST_WORTH));
     standing.prices.fill(0);
-    count_up(standing.rooms.room);
-    count_up(standing.rooms.holder);
+    standing.rooms.begin();
 }
 
 // All rounds. The count of looks.
 pub fn place_all(group: &Group, standing: &mut Standing, tree: &mut Tree) -> u64
-    requires lists { Listed (house group.now).n standing.old }
+    requires lists { length standing.old.persons.now ≡ (house group.now).n }
     requires people { tree.old.n ≡ (house group.now).n }
     ensures model { state_of standing.new ≡ after (worth_at (house group.now)) (house group.now).n most_worth (house group.now).n }
     ensures count { result ≡ looks_to (worth_at (house group.now)) (house group.now).n most_worth (house group.now).n }

@@ -7,8 +7,7 @@ ghost use Rattle.assignment.specs.Search.{at, list_of, offers, with_row, nearer,
 ghost use Rattle.assignment.specs.Slices.{state_of, tree_at};
 ghost use Rattle.assignment.specs.Between.{Ready, Stands};
 
-use super::rounds::Standing;
-use super::slices::Tree;
+use super::slices::{Standing, Tree};
 use rooms::Group;
 use rooms::group::MOST_PEOPLE;
 

@@ -5,7 +5,7 @@ use Rattle.assignment.proofs.rounds.place_all.Goals as goal
 
 pub loop-p-init : goal.loop-p-init
 loop-p-init c = (
-  going_none _ _ _ (λ i r _ _. c.count-p-end.ensures.allowed.small i r) _ _ _ _ (rw c.requires.lists.long_persons at c.begin.ensures),
+  going_none _ _ _ (λ i r _ _. c.count-p-end.ensures.allowed.small i r) _ _ _ _ (rw c.requires.lists at c.begin.ensures),
   c.requires.people,
 )
 

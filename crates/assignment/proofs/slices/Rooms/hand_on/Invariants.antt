@@ -1,7 +1,7 @@
 use Rattle.std.proofs.Common.{◌≡◌, ◌-◌, length}
 use Rattle.assignment.specs.Run.{handed}
 use Rattle.assignment.specs.Slices.{rooms_of, Holding}
-use Rattle.assignment.proofs.rounds.Rooms.hand_on.Given as goal
+use Rattle.assignment.proofs.slices.Rooms.hand_on.Given as goal
 
 abbrev pub invariant-loop-t : goal.invariant-loop-t
 invariant-loop-t l =

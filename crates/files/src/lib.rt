@@ -145,14 +145,11 @@ pub fn read_file<'a>(rt: &HostRuntime, path: &'a str) -> Result<Vec<u8>, Failure
     reported(path, whole(read_group(rt, path)?))
 }
 
-// Fails where standard output did not take what was printed. No map_err: the borrow checker does not cover a variant with a lifetime passed as a function.
+// Fails where standard output did not take what was printed.
 pub fn printed<'a>(outcome: io::Result<()>) -> Result<(), Failure<'a>>
     ensures { MatchResult outcome (λ _. result ≡ Ok tt) (λ error. result ≡ Err (CannotPrint error)) }
 {
-    match outcome {
-        Ok(()) => Ok(()),
-        Err(error) => Err(Failure::CannotPrint(error)),
-    }
+    outcome.map_err(|error| Failure::CannotPrint(error))
 }
 
 // Writes the bytes to a file.

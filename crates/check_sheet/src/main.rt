@@ -1,7 +1,7 @@
 // Checks a sheet against a group: whether its rents are the fairest, or its first fault.
 #![tactic(auto)]
 
-use files::{Failure, arguments, ended, helped, misused, printed, read_file, read_group};
+use files::{Failure, ended, helped, misused, printed, read_file, read_group, with_words};
 use sheet::{Verdict, check};
 use std::process::ExitCode;
 
@@ -31,10 +31,6 @@ fn run<'a>(rt: &HostRuntime, words: &'a [String]) -> Result<ExitCode, Failure<'a
     }
 }
 
-// The words stay here, since a failure borrows them.
 fn main(rt: HostRuntime) -> ExitCode {
-    match arguments(&rt) {
-        Ok(words) => ended(&rt, "check", run(&rt, &words)),
-        Err(e) => ended(&rt, "check", Err(e)),
-    }
+    with_words(&rt, "check", |words| ended(&rt, "check", run(&rt, words)))
 }

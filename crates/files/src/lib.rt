@@ -3,7 +3,7 @@
 // have none; .ci/programs tries them.
 #![tactic(auto)]
 
-ghost use Rattle.std.specs.Prelude.{◌≡◌, ◌≤◌, IfOk, IfErr, Ok, Err, vec_len, MatchResult};
+ghost use Rattle.std.specs.Prelude.{◌≡◌, ◌≤◌, ◌⊎◌, IfOk, IfErr, Ok, Err, vec_len, MatchResult};
 ghost use Rattle.std.specs.Process.{exit_status};
 ghost use Rattle.files.specs.declared.Failure.TheVariants.{CannotRead, CannotWrite, CannotPrint, Other};
 
@@ -67,6 +67,21 @@ impl From<io::Error> for Failure<'_> {
 // The words that a program was called with, after its own name. What they are no contract can say.
 pub fn arguments(rt: &HostRuntime) -> io::Result<Vec<String>> {
     Ok(env::args(rt)?.skip(1).collect(rt.alloc())?)
+}
+
+// Runs a program on the words that it was called with. It ends inside, since its failure may borrow them.
+pub fn with_words<F: FnOnce(&[String]) -> ExitCode>(
+    rt: &HostRuntime,
+    program: &str,
+    run: F,
+) -> ExitCode
+    requires { F.IsAlwaysCallable run }
+    ensures { ((words : _) × F.post run words result) ⊎ (exit_status result ≡ 1) }
+{
+    match arguments(rt) {
+        Ok(words) => run(&words),
+        Err(error) => ended(rt, program, Err(error)),
+    }
 }
 
 // Tells how a program is called, where it was called otherwise; the status to end with.
@@ -217,6 +232,7 @@ fn make_beside(rt: &HostRuntime, path: &str) -> io::Result<(File, String)> {
 }
 
 // Fills the file beside, which then takes the name. A full disk may show only when the bytes reach it, so they are waited for before the old file goes.
+// Its five parameters are what the three calls take; nothing ties them.
 fn finish(
     rt: &HostRuntime,
     mut file: File,
@@ -238,6 +254,13 @@ mod tests {
     #[test]
     fn words_are_found(rt: HostRuntime) -> Result<(), Fail> {
         let _ = arguments(&rt)?;
+        Ok(())
+    }
+
+    #[test]
+    fn the_program_is_run(rt: HostRuntime) -> Result<(), Fail> {
+        let code = with_words(&rt, "files", |_| ExitCode::SUCCESS);
+        assert_eq!(rt; code, ExitCode::SUCCESS);
         Ok(())
     }
 }

@@ -1,7 +1,7 @@
 // Makes a group's bytes from text: how many people, the rent, and then for each person what each room is worth to them.
 #![tactic(auto)]
 
-use files::{arguments, ended, helped, misused, read_file, write_file};
+use files::{ended, helped, misused, read_file, with_words, write_file};
 use rooms::Group;
 use std::alloc::AllocError;
 use std::process::ExitCode;
@@ -76,10 +76,6 @@ fn run<'a>(rt: &HostRuntime, words: &'a [String]) -> Result<ExitCode, Failure<'a
     }
 }
 
-// The words stay here, since a failure borrows them.
 fn main(rt: HostRuntime) -> ExitCode {
-    match arguments(&rt) {
-        Ok(words) => ended(&rt, "group", run(&rt, &words)),
-        Err(e) => ended(&rt, "group", Err(e)),
-    }
+    with_words(&rt, "group", |words| ended(&rt, "group", run(&rt, words)))
 }

@@ -2,7 +2,7 @@
 #![tactic(auto)]
 
 use files::{
-    Failure, arguments, ended, helped, misused, printed, read_front, read_group, reported,
+    Failure, ended, helped, misused, printed, read_front, read_group, reported, with_words,
     write_file,
 };
 use rooms::group::MOST_PEOPLE;
@@ -81,10 +81,6 @@ fn run<'a>(rt: &HostRuntime, words: &'a [String]) -> Result<ExitCode, Failure<'a
     }
 }
 
-// The words stay here, since a failure borrows them.
 fn main(rt: HostRuntime) -> ExitCode {
-    match arguments(&rt) {
-        Ok(words) => ended(&rt, "share", run(&rt, &words)),
-        Err(e) => ended(&rt, "share", Err(e)),
-    }
+    with_words(&rt, "share", |words| ended(&rt, "share", run(&rt, words)))
 }

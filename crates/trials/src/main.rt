@@ -11,66 +11,46 @@ mod seed;
 mod timing;
 
 use compare::compare_all;
+use files::{Failure, ended, misused, with_words};
 use load::load_all;
 use std::process::ExitCode;
-use std::{env, io};
 use timing::time_all;
 
-fn help(rt: &HostRuntime) -> io::Result<()> {
-    println!(rt; "usage: trials [compare | time COUNT PASSES [N] | load COUNT]")?;
-    println!(rt;
-        "compare: three thousand small houses, beside the best of all sharings and plain rounds over all pairs."
-    )?;
-    println!(rt;
-        "time: COUNT houses of each kind of 2, 6, 12 and 24 people, or of N alone; on standard error what each part took, in"
-    )?;
-    println!(rt;
-        "nanoseconds a house, in the fastest of PASSES passes. load: COUNT groups with their sheets, sound and damaged. With"
-    )?;
-    println!(rt; "no word: compare.")
-}
+const USAGE: &str = "usage: trials [compare | time COUNT PASSES [N] | load COUNT]";
 
-// Not by the crate files, which tells of standard output in other words where it fails.
-fn usage(rt: &HostRuntime) -> io::Result<ExitCode> {
-    eprintln!(rt; "usage: trials [compare | time COUNT PASSES [N] | load COUNT]")?;
-    Ok(ExitCode::FAILURE)
-}
+const HELP: &str = "\
+compare: three thousand small houses, beside the best of all sharings and plain rounds over all pairs.
+time: COUNT houses of each kind of 2, 6, 12 and 24 people, or of N alone; on standard error what each part took, in
+nanoseconds a house, in the fastest of PASSES passes. load: COUNT groups with their sheets, sound and damaged. With
+no word: compare.";
 
 // The number that a word is.
-fn number(word: Option<String>) -> Option<u64> {
+fn number(word: Option<&String>) -> Option<u64> {
     word?.as_str().parse::<u64>().ok()
 }
 
-fn run(rt: &HostRuntime) -> io::Result<ExitCode> {
-    let mut args = env::args(rt)?;
-    let _ = args.next();
-    let mode = args.next();
-    match mode.as_ref().map_or("compare", |word| word.as_str()) {
-        "--help" => help(rt)?,
+fn run(rt: &HostRuntime, words: &[String]) -> Result<ExitCode, Failure<'static>> {
+    match words.first().map_or("compare", |word| word.as_str()) {
+        // Not by files::helped, which tells of standard output in other words where it fails.
+        "--help" => println!(rt; "{USAGE}\n{HELP}")?,
         "compare" => compare_all(rt)?,
         "time" => {
-            let (Some(count), Some(passes)) = (number(args.next()), number(args.next())) else {
-                return usage(rt);
+            let (Some(count), Some(passes)) = (number(words.get(1)), number(words.get(2))) else {
+                return misused(rt, USAGE);
             };
-            time_all(rt, count, passes, number(args.next()))?;
+            time_all(rt, count, passes, number(words.get(3)))?;
         }
         "load" => {
-            let Some(count) = number(args.next()) else {
-                return usage(rt);
+            let Some(count) = number(words.get(1)) else {
+                return misused(rt, USAGE);
             };
             load_all(rt, count)?;
         }
-        _ => return usage(rt),
+        _ => return misused(rt, USAGE),
     }
     Ok(ExitCode::SUCCESS)
 }
 
 fn main(rt: HostRuntime) -> ExitCode {
-    match run(&rt) {
-        Ok(code) => code,
-        Err(e) => {
-            let _ = eprintln!(rt; "trials: {e}");
-            ExitCode::FAILURE
-        }
-    }
+    with_words(&rt, "trials", |words| ended(&rt, "trials", run(&rt, words)))
 }

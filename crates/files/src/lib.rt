@@ -65,7 +65,7 @@ impl From<io::Error> for Failure<'_> {
 }
 
 // The words that a program was called with, after its own name. What they are no contract can say.
-pub fn arguments(rt: &HostRuntime) -> io::Result<Vec<String>> {
+fn arguments(rt: &HostRuntime) -> io::Result<Vec<String>> {
     Ok(env::args(rt)?.skip(1).collect(rt.alloc())?)
 }
 

@@ -16,23 +16,48 @@ pub(super) struct House {
     ghost people: { vec_len worth < 256 },
 }
 
+// What the worths of a small house are.
+#[derive(Clone, Copy, PartialEq)]
+enum Worths {
+    Tied,
+    Middling,
+    Large,
+    OfOneMind,
+    ZerosAndOnes,
+}
+
+const WORTHS: [Worths; 5] = [
+    Worths::Tied,
+    Worths::Middling,
+    Worths::Large,
+    Worths::OfOneMind,
+    Worths::ZerosAndOnes,
+];
+
+impl Worths {
+    fn most(self) -> u32 {
+        match self {
+            Worths::Tied => 4,
+            Worths::Middling => 100,
+            Worths::Large => 1_000_000,
+            Worths::OfOneMind => 50,
+            Worths::ZerosAndOnes => 1,
+        }
+    }
+}
+
 impl House {
-    // Small house number k: in turn many ties, middling worths, large ones, everybody of one mind, and nothing but zeros and ones.
+    // Small house number k: its worths are of each kind in turn.
     pub(super) fn small(heap: Global, seed: &mut Seed, k: u32) -> Result<House, AllocError> {
-        let most = match k % 5 {
-            0 => 4,
-            1 => 100,
-            2 => 1_000_000,
-            3 => 50,
-            _ => 1,
-        };
+        let worths = WORTHS[(k % 5) as usize];
+        let most = worths.most();
         let n = 1 + seed.draw_len(4);
         // All is drawn for five people, whoever of them lives there.
         let mut table = [[0; FEW]; FEW];
         for worth in table.iter_mut().flatten() {
             *worth = seed.draw(most);
         }
-        if k % 5 == 3 {
+        if worths == Worths::OfOneMind {
             table = [table[0]; FEW];
         }
         let worth = table[..n]

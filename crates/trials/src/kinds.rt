@@ -42,7 +42,7 @@ impl Kind {
         }
     }
 
-    // What each of n rooms is worth to person i.
+    // What each of n rooms is worth to person i. Its five parameters have nothing in common.
     fn row(
         self,
         heap: Global,
@@ -58,10 +58,9 @@ impl Kind {
     pub(super) fn house(self, heap: Global, seed: &mut Seed, n: u8) -> Result<House, AllocError> {
         let rent = seed.draw(MOST_RENT);
         let common = seed.draw(MOST_WORTH);
-        let mut worth = Vec::with_capacity(heap, usize::from(n))?;
-        for i in 0..n {
-            worth.push(self.row(heap, seed, common, i, n)?)?;
-        }
+        let worth = (0..n)
+            .map(|i| self.row(heap, seed, common, i, n))
+            .try_collect(heap)?;
         Ok(House { rent, worth })
     }
 }

@@ -117,6 +117,7 @@ impl Lengths {
     {
         let n = usize::from(people);
         let mut lengths = ALL;
+        // As a die: the draw picks what is too short.
         match seed.draw(3) {
             0 => lengths.rooms = n - 1,
             1 => lengths.rents = 2 * n - 1,
@@ -178,7 +179,7 @@ impl Trial {
         }
     }
 
-    // Shares a group on slices of these lengths, and counts the answer. The sheet, where there is one.
+    // Shares a group on slices of these lengths, and counts the answer. Its sheet; none where it is refused, which is no failure.
     fn try_group(&mut self, group: &[u8], lengths: Lengths) -> Result<Option<Vec<u8>>, AllocError> {
         let mut lent = self.unused;
         let outcome = share(
@@ -217,6 +218,7 @@ impl Trial {
             return Ok(());
         };
         self.try_sheet(group, sheet.as_slice())?;
+        // As a die: the draw picks what is damaged.
         match self.seed.draw(7) {
             0 => separate(sheet.as_mut_slice(), people),
             1 => self.seed.scramble(sheet.as_mut_slice()),
@@ -235,6 +237,7 @@ impl Trial {
         requires few { people ≤ MOST_PEOPLE }
     {
         let mut lengths = ALL;
+        // As a die: the draw picks what is damaged.
         match self.seed.draw(7) {
             0 => group.push(MARK)?,
             1 => {

@@ -96,7 +96,7 @@ struct Answers {
 }
 
 impl Answers {
-    // Shares and checks one group, and takes all that was answered into the sum. Its sheet; none where it is refused.
+    // Shares and checks one group, and takes all that was answered into the sum. Its sheet; none where it is refused, which is no failure.
     fn take(&mut self, heap: Global, group: &[u8]) -> Result<Option<Vec<u8>>, AllocError> {
         let mut lent = Lent::filled(0);
         let Ok(shared) = lent.share(group) else {

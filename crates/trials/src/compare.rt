@@ -11,18 +11,18 @@ use std::{fmt, io};
 // What was compared and came out the same, over all houses.
 #[derive(Clone, Copy, Default)]
 struct Tally {
-    taken: u32,
-    best: u32,
-    settled: u32,
-    least: u32,
-    cents: u32,
-    accepted: u32,
-    changed: u32,
-    refused: u32,
+    taken: u64,
+    best: u64,
+    settled: u64,
+    least: u64,
+    cents: u64,
+    accepted: u64,
+    changed: u64,
+    refused: u64,
 }
 
-fn count(times: &mut u32, holds: bool) {
-    *times = times.saturating_add(u32::from(holds));
+pub(super) fn count(times: &mut u64, holds: bool) {
+    *times = times.saturating_add(u64::from(holds));
 }
 
 // Whether the sheet is refused while byte k is one more.

@@ -3,6 +3,7 @@ ghost use Rattle.std.specs.Prelude.{◌<◌, ◌≤◌};
 ghost use Rattle.rooms.specs.declared.group.TheConstants.{MOST_PEOPLE};
 ghost use Rattle.sheet.specs.declared.sharing.TheConstants.{MOST_RENTS, MOST_WORK, MOST_SHEET};
 
+use super::compare::count;
 use super::kinds::KINDS;
 use super::lent::Lent;
 use super::seed::Seed;
@@ -39,17 +40,17 @@ impl Tally {
     }
 
     fn accept(&mut self) {
-        self.taken = self.taken.saturating_add(1);
+        count(&mut self.taken, true);
         self.take(0, 0);
     }
 
-    fn refuse(&mut self, number: u32, place: u128) {
-        if let Some(k) = number.checked_sub(1)
+    fn refuse(&mut self, fault: Fault) {
+        if let Some(k) = fault.number.checked_sub(1)
             && let Some(times) = self.refused.get_mut(k as usize)
         {
-            *times = times.saturating_add(1);
+            count(times, true);
         }
-        self.take(number, place);
+        self.take(fault.number, fault.place);
     }
 }
 
@@ -70,22 +71,37 @@ impl fmt::Display for Tally {
 // What stands in a lent slice before a call, so that a write is seen.
 const MARK: u8 = 77;
 
-// Whether a refusal can stand at this place, by the people of the group and the lengths of group and sheet. Its kind is the number that is printed, so
-// that numbers are tried too.
-fn is_place(number: u32, place: u128, group: &[u8], sheet: &[u8]) -> bool {
-    let people = group.first().copied().map_or(0, u128::from);
-    let pair = place / 32 < people && place % 32 < people;
-    match number {
-        1 => place <= group.len() as u128,
-        2 => place == 0,
-        3 => place == 1,
-        4 => place >= 5 && place % 4 == 1 && place < group.len() as u128,
-        5 => place < 4,
-        6 => place == sheet.len() as u128,
-        7 | 9 => place < people,
-        8 | 10 => pair,
-        11 => place < people || (place >= 32 && place - 32 < people),
-        _ => false,
+// What is refused, and where. Its kind is the number that is printed, so that numbers are tried too.
+#[derive(Clone, Copy)]
+struct Fault {
+    number: u32,
+    place: u128,
+}
+
+impl fmt::Display for Fault {
+    fn fmt<W: fmt::Write>(&self, f: &mut fmt::Formatter<W>) -> fmt::Result {
+        write!(f, "refused {} at {}", self.number, self.place)
+    }
+}
+
+impl Fault {
+    // Whether it can stand at its place, by the people of the group and the lengths of group and sheet.
+    fn can_be(self, group: &[u8], sheet: &[u8]) -> bool {
+        let place = self.place;
+        let people = group.first().copied().map_or(0, u128::from);
+        let pair = place / 32 < people && place % 32 < people;
+        match self.number {
+            1 => place <= group.len() as u128,
+            2 => place == 0,
+            3 => place == 1,
+            4 => place >= 5 && place % 4 == 1 && place < group.len() as u128,
+            5 => place < 4,
+            6 => place == sheet.len() as u128,
+            7 | 9 => place < people,
+            8 | 10 => pair,
+            11 => place < people || (place >= 32 && place - 32 < people),
+            _ => false,
+        }
     }
 }
 
@@ -149,21 +165,19 @@ struct Trial {
 }
 
 impl Trial {
-    // Counts a refusal by the number and the place of its fault, and whether it is well formed.
+    // Counts a refusal by its fault, and whether it is well formed.
     fn refuse<T: fmt::Display>(
         &mut self,
         refusal: &T,
-        fault: (u32, u128),
+        fault: Fault,
         group: &[u8],
         sheet: &[u8],
     ) -> Result<(), AllocError> {
-        let (number, place) = fault;
         let text = format!(in self.heap; "{refusal}")?;
-        let wanted = format!(in self.heap; "refused {number} at {place}")?;
-        if !is_place(number, place, group, sheet) || text != wanted {
-            self.tally.ill_formed = self.tally.ill_formed.saturating_add(1);
-        }
-        self.tally.refuse(number, place);
+        let wanted = format!(in self.heap; "{fault}")?;
+        let well_formed = fault.can_be(group, sheet) && text == wanted;
+        count(&mut self.tally.ill_formed, !well_formed);
+        self.tally.refuse(fault);
         Ok(())
     }
 
@@ -175,7 +189,9 @@ impl Trial {
                 self.tally.accept();
                 Ok(())
             }
-            Some(fault) => self.refuse(&verdict, fault, group, sheet),
+            Some((number, place)) => {
+                self.refuse(&verdict, Fault { number, place }, group, sheet)
+            }
         }
     }
 
@@ -202,10 +218,11 @@ impl Trial {
                 Ok(Some(sheet))
             }
             Err(refusal) => {
-                if lent != self.unused {
-                    self.tally.changed = self.tally.changed.saturating_add(1);
-                }
-                let fault = (refusal.number(), refusal.place() as u128);
+                count(&mut self.tally.changed, lent != self.unused);
+                let fault = Fault {
+                    number: refusal.number(),
+                    place: refusal.place() as u128,
+                };
                 self.refuse(&refusal, fault, group, &[])?;
                 Ok(None)
             }

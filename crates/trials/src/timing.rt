@@ -1,4 +1,5 @@
 // Groups made from a seed, shared and checked, and how long each part takes.
+use super::compare::count;
 use super::kinds::{KINDS, Kind};
 use super::lent::Lent;
 use super::seed::Seed;
@@ -7,8 +8,22 @@ use longest::longest_rows;
 use rooms::{Group, Refusal};
 use sheet::{Verdict, check, sheet_len};
 use std::alloc::{AllocError, Global};
-use std::io;
 use std::time::Instant;
+use std::{fmt, io};
+
+// So many houses of n people, of one kind.
+#[derive(Clone, Copy)]
+struct Lot {
+    n: u8,
+    kind: Kind,
+    count: u64,
+}
+
+impl fmt::Display for Lot {
+    fn fmt<W: fmt::Write>(&self, f: &mut fmt::Formatter<W>) -> fmt::Result {
+        write!(f, "n {} {}", self.n, self.kind)
+    }
+}
 
 // A group, and the sheet of its share.
 #[derive(Drop)]
@@ -40,8 +55,8 @@ impl Times {
     }
 
     // What each part took for a group of so many: what its end took longer than that of the part before.
-    fn tell(self, rt: &HostRuntime, n: u8, kind: Kind, count: u64) -> io::Result<()> {
-        let each = |nanos: u64| nanos / count.max(1);
+    fn tell(self, rt: &HostRuntime, lot: Lot) -> io::Result<()> {
+        let each = |nanos: u64| nanos / lot.count.max(1);
         let read = each(self.read);
         let sharing = each(self.sharing.saturating_sub(self.read));
         let rows = each(self.rows.saturating_sub(self.sharing));
@@ -49,27 +64,21 @@ impl Times {
         let share = each(self.share);
         let check = each(self.check);
         eprintln!(rt;
-            "n {n} {kind}: read {read} sharing {sharing} rows {rows} rents-and-sheet {rest} share {share} check {check}"
+            "{lot}: read {read} sharing {sharing} rows {rows} rents-and-sheet {rest} share {share} check {check}"
         )
     }
 }
 
-// The parts of a share up to reading: the group.
-fn read(bytes: &[u8]) -> Result<Group<'_>, Refusal> {
-    Group::validate(bytes)?;
-    Ok(Group::new(bytes))
-}
-
 // The parts of a share up to the sharing: how many looks.
 fn looks(bytes: &[u8], lent: &mut Lent) -> Result<u64, Refusal> {
-    let group = read(bytes)?;
+    let group = Group::try_from(bytes)?;
     let found = assign(&group, &mut lent.rooms, &mut lent.work);
     Ok(found.looks)
 }
 
 // The parts of a share up to the longest rows: how many rounds.
 fn rounds(bytes: &[u8], lent: &mut Lent) -> Result<u64, Refusal> {
-    let group = read(bytes)?;
+    let group = Group::try_from(bytes)?;
     let found = assign(&group, &mut lent.rooms, &mut lent.work);
     let rows = longest_rows(
         &group,
@@ -120,23 +129,18 @@ impl Answers {
         let rounds = rounds(group, &mut lent).unwrap_or(0);
         self.looks = self.looks.wrapping_add(shared.looks);
         self.rounds = self.rounds.wrapping_add(rounds);
-        self.accepted = self.accepted.wrapping_add(u64::from(accepted));
+        count(&mut self.accepted, accepted);
         Ok(Some(sheet))
     }
 }
 
-// Groups of n of one kind, with their sheets, and what came out of them.
-fn answer_kind(
-    heap: Global,
-    n: u8,
-    kind: Kind,
-    count: u64,
-) -> Result<(Vec<Case>, Answers), AllocError> {
-    let mut seed = Seed(u64::from(n));
+// The groups of a lot with their sheets, and what came out of them.
+fn answer_lot(heap: Global, lot: Lot) -> Result<(Vec<Case>, Answers), AllocError> {
+    let mut seed = Seed(u64::from(lot.n));
     let mut answers = Answers::default();
     let mut cases = Vec::new(heap);
-    for _ in 0..count {
-        let group = kind.house(heap, &mut seed, n)?.bytes(heap)?;
+    for _ in 0..lot.count {
+        let group = lot.kind.house(heap, &mut seed, lot.n)?.bytes(heap)?;
         if let Some(sheet) = answers.take(heap, group.as_slice())? {
             cases.push(Case { group, sheet })?;
         }
@@ -194,16 +198,15 @@ impl Stopwatch<'_> {
         Ok(best)
     }
 
-    // Groups of n of one kind: what came out of them on standard output, and how long they took on standard error.
-    fn time_kind(&mut self, n: u8, kind: Kind, count: u64, passes: u64) -> io::Result<()> {
+    // A lot: what came out of it on standard output, and how long it took on standard error.
+    fn time_lot(&mut self, lot: Lot, passes: u64) -> io::Result<()> {
         let rt = self.rt;
-        let (cases, answers) = answer_kind(rt.alloc(), n, kind, count)?;
+        let (cases, answers) = answer_lot(rt.alloc(), lot)?;
         println!(rt;
-            "n {n} {kind}: houses {count} looks {} rounds {} accepted {} sum {}",
-            answers.looks, answers.rounds, answers.accepted, answers.sum
+            "{lot}: houses {} looks {} rounds {} accepted {} sum {}",
+            lot.count, answers.looks, answers.rounds, answers.accepted, answers.sum
         )?;
-        self.time_passes(cases.as_slice(), passes)?
-            .tell(rt, n, kind, count)
+        self.time_passes(cases.as_slice(), passes)?.tell(rt, lot)
     }
 }
 
@@ -218,7 +221,7 @@ pub(super) fn time_all(
     for n in [2u8, 6, 12, 24] {
         if only.is_none_or(|only| only == u64::from(n)) {
             for kind in KINDS {
-                watch.time_kind(n, kind, count, passes)?;
+                watch.time_lot(Lot { n, kind, count }, passes)?;
             }
         }
     }

@@ -1,4 +1,5 @@
-// The rounds: in round p person p is placed, the numbers are moved, and rooms are handed on.
+// The rounds: in round p person p is placed, the numbers are moved, and rooms are handed on. Where one list is written by what stands in another, the
+// other is indexed: after a zip of a slice that is written a proof knows none of its elements.
 ghost use Rattle.std.specs.Prelude.{◌≡◌, ℕ, ◌+◌, ◌-◌, ◌*◌, ◌<◌, ◌≤◌, length};
 ghost use Rattle.std.specs.List.{range_with_len};
 ghost use Rattle.rooms.specs.House.{worth_at};
@@ -61,7 +62,7 @@ fn raise(d: u64, distance: &[u64], prices: &mut [u64])
     }
 }
 
-// The numbers of placed persons fall as their rooms rise, and p's falls by d.
+// The numbers of placed persons fall as their rooms rise, and p's falls by d. Distances are the tree's, rooms and persons are of what stands.
 fn lower(p: usize, d: u64, distance: &[u64], rooms: &Rooms, persons: &mut [u64])
     requires sizes { (length distance.now ≡ length persons.old) × (length rooms.now.room.now ≡ length persons.old) × (p < length persons.old) }
     requires rooms { (i : ℕ) → i < length persons.old → at rooms.now.room.now i < length persons.old }

@@ -23,7 +23,7 @@ fn offer(mine: [u32; MOST_PEOPLE], base: u64, prices: &[u64], row: &mut [u64])
     }
 }
 
-// Person i's row of all rows is written: what i offers at distance d.
+// Person i's row of all rows is written: what i offers at distance d. The rows come apart from the tree, whose other lists stay as they are.
 // Who reads it then lends it by &mut: a & is not covered by the borrow checker where other fields of the tree are lent beside it.
 fn write_row(rows: &mut [u64], group: &Group, i: usize, d: u64, standing: &Standing)
     requires person { (i < (house group.now).n) × (d ≤ 2 * most_worth) }
@@ -97,7 +97,8 @@ impl Tree<'_> {
         merge(row, i, self.distance, self.parent);
     }
 
-    // The nearest room that is not reached, of several as near the first; there is one.
+    // The nearest room that is not reached, of several as near the first; there is one. By hand, since the
+    // library's minimum does not say which of several as low it answers.
     fn nearest(&self) -> usize
         requires sizes { length self.now.distance.now ≡ length self.now.turn.now }
         requires some { (q : ℕ) × (q < length self.now.turn.now) × (at self.now.turn.now q ≡ 0) }

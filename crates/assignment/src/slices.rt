@@ -1,5 +1,6 @@
 // The slices of the work: what stands between two rounds, and the tree of a round. Each says how long its slices are.
-// They are apart from their methods, whose contracts cite specs that read them.
+// They are apart from their methods, whose contracts cite specs that read them. Lists stand beside one another, and a room that is not reached has
+// turn 0, since the work that is lent is one slice of numbers.
 ghost use Rattle.std.specs.Prelude.{◌≡◌, ◌*◌, length};
 
 // Who holds which room, and who holds each; the numbers are u64 as all of the work. Persons who are not placed yet hold rooms too.

@@ -56,7 +56,8 @@ fn missing_cents(rent: u32, rents: &[u64]) -> i64
     i64::from(rent).minus(floors)
 }
 
-// One cent more for the first rooms, as many as cents are missing.
+// One cent more for the first rooms, as many as cents are missing. The checker has the same in 128 bits; `Whole` has neither an order nor constants, and
+// two members more for one `if` would be no plainer.
 fn in_cents(down: i64, r: usize, missing: i64) -> i64
     requires { (Within (2 ^ 60) down) × (r < 2 ^ 32) }
     ensures { result ≡ down +ℤ extra missing r }

@@ -1,5 +1,6 @@
 // The longest rows of ways among people: for a sharing of highest joint worth, the length of the longest row of ways that ends at each person, and
-// who stands before them in it.
+// who stands before them in it. Where one list is written by what stands in another, the other is indexed: after a zip of a slice that is written a
+// proof knows none of its elements.
 #![tactic(auto)]
 
 ghost use Rattle.std.specs.Prelude.{◌≡◌, ℕ, ◌+◌, ◌-◌, ◌*◌, ◌<◌, ◌≤◌, ◌++◌, map, length, drop, replicate};
@@ -77,7 +78,7 @@ pub fn rows_stand()
     ensures one { OneLongest }
 {}
 
-// A sharing of highest joint worth, with numbers that show it best.
+// A sharing of highest joint worth, with numbers that show it best. No heap in the libraries, so arrays of the most people.
 #[derive(Drop)]
 struct Best<'a> {
     group: Group<'a>,
@@ -235,6 +236,7 @@ impl Ways<'_> {
 
     // Makes rows longer, one in a round: that of the person whose offer leaves least, until no offer makes one longer. How many rounds it took.
     // Nested loops over people, left by the label when nothing gets longer, as the project wants this search to be read.
+    // The least is found by hand, since the library's minimum does not say which of several as low it answers.
     fn lengthen(&self, rows: &mut [Row], offers: &mut [Row]) -> usize
         requires sizes { (length rows.old ≡ self.now.n) × (length offers.old ≡ self.now.n) }
         requires small { (i : ℕ) → i < self.now.n → at (lefts rows.old) i ≤ most_worth }

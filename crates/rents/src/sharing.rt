@@ -12,6 +12,7 @@ use rooms::group::MOST_PEOPLE;
 use whole::{Whole, Word};
 
 // A sharing of a group's rooms with the lengths of its longest rows; the joint worth, and what is spare.
+// No heap in the libraries, so an array of the most people.
 #[derive(Clone, Copy)]
 pub(crate) struct Sharing<'g, 'r> {
     group: Group<'g>,

@@ -10,7 +10,8 @@ use super::statement::Statement;
 use rooms::group::MOST_PEOPLE;
 use whole::wide_sum;
 
-// Whether the numbers of a person and a room are below the worth together, or above it where the room is the person's own.
+// Whether the numbers of a person and a room are below the worth together, or above it where the room is the person's own:
+// `own` is a part of the test, and picks no step.
 fn sum_off(person: i64, room: i64, worth: u32, own: bool) -> bool
     ensures { result ≡ (int_lt (person +ℤ room) (pos worth) || (own && int_lt (pos worth) (person +ℤ room))) }
 {
@@ -20,7 +21,7 @@ fn sum_off(person: i64, room: i64, worth: u32, own: bool) -> bool
 }
 
 impl Statement<'_> {
-    // The first person who has no room, or an earlier person's.
+    // The first person who has no room, or an earlier person's. A loop, since the test keeps which rooms are taken.
     pub fn first_room(&self) -> Option<usize>
         ensures { result ≡ found (room_fault (house_in self.now) (claimed_by self.now)) (house_in self.now).n }
     {

@@ -24,7 +24,7 @@ impl Statement<'_> {
         i128::from(self.entries.d[i])
     }
 
-    // Who stands before person i.
+    // Who stands before person i; nobody is a byte on the sheet alone.
     fn before(&self, i: usize) -> Option<usize>
         requires { i < (house_in self.now).n }
         ensures { MatchOption result (prior (claimed_by self.now).before i ≡ nobody)
@@ -39,7 +39,7 @@ impl Statement<'_> {
         }
     }
 
-    // Whether going back from j comes to i within as many persons as are left.
+    // Whether going back from j comes to i within as many persons as are left: a recursion along the persons before, as a rule of the project.
     fn leads_back(&self, left: usize, i: usize, j: usize) -> bool
         requires person { j < (house_in self.now).n }
         requires linked { Linked (claimed_by self.now).before (house_in self.now).n }

@@ -38,6 +38,7 @@ pub struct Shared {
 
 // Shares a house. In `rooms` everybody's room; in `rents` n × the rent of each room and then its cents, as the bits of signed numbers; in `sheet` the
 // sheet that shows it. `work` is all zero again. What lies past the parts used is kept; a refusal changes nothing.
+// The slices are lent one by one, as callers have them.
 pub fn share(
     group: &[u8],
     rooms: &mut [u32],

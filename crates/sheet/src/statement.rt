@@ -14,7 +14,7 @@ pub struct Statement<'a> {
     pub entries: &'a Entries,
 }
 
-// A statement by which everybody has a room of their own.
+// A statement by which everybody has a room of their own. Clauses name the whole path to what is stated, which says of which statement.
 #[derive(Clone, Copy)]
 pub struct Sharing<'a> {
     pub stated: Statement<'a>,
@@ -30,7 +30,7 @@ pub struct Terms<'a> {
     // What everybody pays besides, rounded toward lower numbers, and how many cents are then missing.
     pub even: i128,
     pub missing: i128,
-    // Who has each room.
+    // Who has each room. No heap in the libraries, so an array of the most people.
     pub tenant: [u8; MOST_PEOPLE],
     ghost reckoned: { Reckoned (house_in sharing.stated) (claimed_by sharing.stated) surplus even missing tenant },
 }

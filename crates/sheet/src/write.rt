@@ -21,6 +21,7 @@ pub fn sheet_len(n: usize) -> usize
 
 // What is written on the sheet for n people: their rooms, the persons before and the lengths of the longest rows; of each
 // room n times its rent and its cents, as they stand in `rents`; and the numbers for the joint worth.
+// No heap in the libraries, so arrays of the most people; n comes without a group.
 #[derive(Clone, Copy)]
 pub struct Draft<'a> {
     pub n: usize,

@@ -21,8 +21,15 @@ struct Tally {
     refused: u64,
 }
 
+pub(super) fn one_more(times: &mut u64) {
+    *times = times.saturating_add(1);
+}
+
+// Counts that something holds.
 pub(super) fn count(times: &mut u64, holds: bool) {
-    *times = times.saturating_add(u64::from(holds));
+    if holds {
+        one_more(times);
+    }
 }
 
 // Whether the sheet is refused while byte k is one more.
@@ -40,7 +47,7 @@ impl Tally {
     fn try_changed(&mut self, group: &[u8], sheet: &mut [u8], people: usize) {
         for k in 0..sheet.len() {
             if k / 10 >= people || k % 10 != 1 {
-                count(&mut self.changed, true);
+                one_more(&mut self.changed);
                 count(&mut self.refused, is_refused(group, sheet, k));
             }
         }

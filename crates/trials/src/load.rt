@@ -3,7 +3,7 @@ ghost use Rattle.std.specs.Prelude.{◌<◌, ◌≤◌};
 ghost use Rattle.rooms.specs.declared.group.TheConstants.{MOST_PEOPLE};
 ghost use Rattle.sheet.specs.declared.sharing.TheConstants.{MOST_RENTS, MOST_WORK, MOST_SHEET};
 
-use super::compare::count;
+use super::compare::{count, one_more};
 use super::kinds::KINDS;
 use super::lent::Lent;
 use super::seed::Seed;
@@ -31,8 +31,9 @@ struct Tally {
 }
 
 impl Tally {
-    // Takes a number and a place into the sum; 0 and 0 where nothing was refused.
-    fn take(&mut self, number: u32, place: u128) {
+    // Takes a refusal into the sum, or that nothing was refused.
+    fn take(&mut self, refused: Option<Fault>) {
+        let (number, place) = refused.map_or((0, 0), |fault| (fault.number, fault.place));
         self.sum = mix(
             mix(self.sum, u64::from(number)),
             (place & 0xffff_ffff) as u64,
@@ -40,17 +41,17 @@ impl Tally {
     }
 
     fn accept(&mut self) {
-        count(&mut self.taken, true);
-        self.take(0, 0);
+        one_more(&mut self.taken);
+        self.take(None);
     }
 
     fn refuse(&mut self, fault: Fault) {
         if let Some(k) = fault.number.checked_sub(1)
             && let Some(times) = self.refused.get_mut(k as usize)
         {
-            count(times, true);
+            one_more(times);
         }
-        self.take(fault.number, fault.place);
+        self.take(Some(fault));
     }
 }
 

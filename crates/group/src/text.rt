@@ -6,7 +6,7 @@ use std::{fmt, vec};
 
 // A place of the text; lines and columns count from 1.
 #[derive(Clone, Copy, Debug, PartialEq, Eq)]
-pub struct Place {
+pub(super) struct Place {
     line: u64,
     column: u64,
 }
@@ -31,7 +31,7 @@ impl Place {
 
 // What is wrong with a text.
 #[derive(Clone, Copy, Debug, PartialEq, Eq)]
-pub enum Kind {
+pub(super) enum Kind {
     Character,
     People,
     Rent,
@@ -55,7 +55,7 @@ impl fmt::Display for Kind {
 
 // What is wrong with a text, and where.
 #[derive(Clone, Copy, Debug, PartialEq, Eq)]
-pub struct Fault {
+pub(super) struct Fault {
     at: Place,
     kind: Kind,
 }
@@ -69,7 +69,7 @@ impl fmt::Display for Fault {
 
 // Why no group could be made of a text.
 #[derive(Clone, Copy, Debug)]
-pub enum Unmade {
+pub(super) enum Unmade {
     Wrong(Fault),
     OutOfMemory,
 }
@@ -175,7 +175,7 @@ fn numbers_of(heap: Global, text: &[u8]) -> Result<Numbers, Unmade> {
 }
 
 // The bytes of the group that a text speaks of: n, the rent, and n × n worths.
-pub fn bytes_of(heap: Global, text: &[u8]) -> Result<Vec<u8>, Unmade> {
+pub(super) fn bytes_of(heap: Global, text: &[u8]) -> Result<Vec<u8>, Unmade> {
     let mut numbers = numbers_of(heap, text)?;
     let mut bytes = Vec::new(heap);
     let people = numbers.next_within(1..=MOST_PEOPLE as u8, Kind::People)?;

@@ -25,7 +25,7 @@ place_of (Length at) = at
 place_of People = 0
 place_of Rent = 1
 place_of (Worth at) = at
-place_of (Slice which) = lent_place which
+place_of (Slice which) = which
 
 -- What is printed of a refusal: "refused 4 at 13".
 abbrev pub refusal_text : ℕ → ℕ → List ℕ

@@ -1,6 +1,7 @@
 // Why bytes or lent slices are not taken.
 ghost use Rattle.std.specs.Prelude.{◌≡◌, Some};
-ghost use Rattle.rooms.specs.Refused.{number_of, place_of, refusal_text};
+ghost use Rattle.rooms.specs.Refused.{number_of, place_of, lent_place, refusal_text};
+ghost use Rattle.rooms.specs.declared.refusal.Refusal.TheVariants.{Slice};
 
 use std::fmt;
 
@@ -23,8 +24,16 @@ pub enum Refusal {
     Rent,
     // A worth above the bound, by its first byte.
     Worth(usize),
-    // A lent slice that is too short.
-    Slice(Lent),
+    // A lent slice that is too short, by its number: 0 to 3 for the four of `Lent`; a caller may name others.
+    Slice(usize),
+}
+
+impl From<Lent> for Refusal {
+    ghost from_gives = { λ which refusal. refusal ≡ Slice (lent_place which) };
+
+    fn from(which: Lent) -> Self {
+        Refusal::Slice(which as usize)
+    }
 }
 
 impl Refusal {
@@ -49,7 +58,7 @@ impl Refusal {
             Refusal::People => 0,
             Refusal::Rent => 1,
             Refusal::Worth(at) => at,
-            Refusal::Slice(which) => which as usize,
+            Refusal::Slice(which) => which,
         }
     }
 }

@@ -2,18 +2,12 @@
 use Rattle.std.proofs.Common.{◌≡◌, ℕ, ◌+◌, ◌-◌, ◌/◌, ◌%◌, ◌<◌, ◌≤◌, cond, sym, refl, ap, ◌∙◌, arith}
 use Rattle.std.specs.Prelude.{◌==◌, nat_lt}
 use Rattle.std.proofs.lemmas.Bool.{cond-false, cond-true, le-ltb, lt-ltb}
-use Rattle.rooms.specs.declared.refusal.Lent.{Lent}
-use Rattle.rooms.specs.declared.refusal.Lent.TheVariants.{Rooms as LentRooms, Rents, Work, Sheet}
 use Rattle.rooms.specs.declared.refusal.Refusal.TheVariants.{Length as GroupLength, People, Rent as GroupRent, Worth, Slice}
 use Rattle.sheet.specs.declared.verdict.Verdict.{Verdict}
 use Rattle.sheet.specs.declared.verdict.Verdict.TheVariants.{Accepted, Group, Length, Rooms, Numbers, Rows, Way, Rent, Cents}
 use Rattle.sheet.specs.Judge.{Judgement, place}
 use Rattle.sheet.specs.Judge.Judgement.{accepted, faulty}
 use Rattle.sheet.specs.Verdicts.{OneVerdict, Plain, meaning}
-
--- The slice of a place.
-lent_at : ℕ → Lent
-lent_at p = cond (p == 0) LentRooms (cond (p == 1) Rents (cond (p == 2) Work Sheet))
 
 -- The verdict of a number and a place.
 refusal_at : ℕ → ℕ → Verdict
@@ -22,7 +16,7 @@ refusal_at n p =
     (cond (n == 2) (Group People)
     (cond (n == 3) (Group GroupRent)
     (cond (n == 4) (Group (Worth p))
-    (cond (n == 5) (Group (Slice (lent_at p)))
+    (cond (n == 5) (Group (Slice p))
     (cond (n == 6) (Length p)
     (cond (n == 7) (Rooms p)
     (cond (n == 8) (Numbers (p / 32) (p % 32))
@@ -39,16 +33,13 @@ parts : (a b : ℕ) → b < 32 → (place a b / 32 ≡ a) × (place a b % 32 ≡
 parts a b l = (omega arith, omega arith)
 
 told_back : (v : Verdict) → Plain v → told (meaning v) ≡ v
-unfolding told refusal_at lent_at
+unfolding told refusal_at
 told_back Accepted p = refl
 told_back (Group (GroupLength at)) p = refl
 told_back (Group People) p = refl
 told_back (Group GroupRent) p = refl
 told_back (Group (Worth at)) p = refl
-told_back (Group (Slice LentRooms)) p = refl
-told_back (Group (Slice Rents)) p = refl
-told_back (Group (Slice Work)) p = refl
-told_back (Group (Slice Sheet)) p = refl
+told_back (Group (Slice which)) p = refl
 told_back (Length at) p = refl
 told_back (Rooms person) p = refl
 told_back (Numbers person room) p = let q = parts person room p in rw (q.0, q.1) refl

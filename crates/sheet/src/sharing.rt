@@ -77,16 +77,16 @@ fn admit(
 {
     let n = group.count();
     if rooms < n {
-        return Err(Refusal::Slice(Lent::Rooms));
+        return Err(Refusal::from(Lent::Rooms));
     }
     if rents < 2 * n {
-        return Err(Refusal::Slice(Lent::Rents));
+        return Err(Refusal::from(Lent::Rents));
     }
     if work < work_len(n) {
-        return Err(Refusal::Slice(Lent::Work));
+        return Err(Refusal::from(Lent::Work));
     }
     if sheet < sheet_len(n) {
-        return Err(Refusal::Slice(Lent::Sheet));
+        return Err(Refusal::from(Lent::Sheet));
     }
     Ok(())
 }

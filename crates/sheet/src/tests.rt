@@ -182,8 +182,7 @@ fn too_short(r: usize, q: usize, w: usize, s: usize) -> usize {
         &mut sheet[0..s],
     ) {
         Err(Refusal::Slice(which))
-            if rooms == [9; 3] && rents == [9; 5] && work == [9; 19] && sheet == [9; 85] =>
-            which as usize,
+            if rooms == [9; 3] && rents == [9; 5] && work == [9; 19] && sheet == [9; 85] => which,
         _ => 9,
     }
 }

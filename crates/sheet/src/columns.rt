@@ -4,7 +4,6 @@ ghost use Rattle.rooms.specs.Format.{most_people};
 ghost use Rattle.sheet.specs.Format.{signed_at, column_of};
 
 use rooms::group::MOST_PEOPLE;
-use std::array;
 
 // What stands in a column: a byte, or a signed number of eight.
 pub trait Entry: Copy + Drop {
@@ -57,9 +56,9 @@ pub fn column<E: Entry>(sheet: &[u8], at: usize, step: usize, n: usize) -> [E; M
     ensures each { (k : ℕ) → slice_index_or result k E.NOTHING ≡ slice_index_or (column_of E.stands sheet.now at step n) k E.NOTHING }
     ensures within { (k : ℕ) (d : _) → k < n → slice_index_or result k d ≡ slice_index_or (column_of E.stands sheet.now at step n) k d }
 {
-    array::from_fn(|k| if k < n {
-        E::read(sheet, at + step * k)
-    } else {
-        E::NOTHING
-    })
+    let mut entries = [E::NOTHING; MOST_PEOPLE];
+    for (k, entry) in entries[..n].iter_mut().enumerate() {
+        *entry = E::read(sheet, at + step * k);
+    }
+    entries
 }

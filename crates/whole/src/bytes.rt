@@ -16,9 +16,17 @@ pub fn read<T: Word>(bytes: &[u8], at: usize) -> T
     requires { at + 8 ≤ length bytes.now }
     ensures { result ≡ T.of_bits (number_at bytes.now at) }
 {
-    let mut eight = [0; 8];
-    eight.copy_from_slice(&bytes[at..at + 8]);
-    T::from_bits(u64::from_le_bytes(eight))
+    // Byte by byte: a copied slice costs more.
+    T::from_bits(u64::from_le_bytes([
+        bytes[at],
+        bytes[at + 1],
+        bytes[at + 2],
+        bytes[at + 3],
+        bytes[at + 4],
+        bytes[at + 5],
+        bytes[at + 6],
+        bytes[at + 7],
+    ]))
 }
 
 // Bytes lose nothing: what is written is read back, a write elsewhere changes nothing, and bytes that are read are those

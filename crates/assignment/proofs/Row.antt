@@ -5,7 +5,7 @@ use Rattle.std.proofs.lemmas.List.{get_or-replicate, length-replicate}
 use Rattle.std.proofs.lemmas.List.FromFn.{fill_by_all}
 use Rattle.rooms.specs.Format.{most_people}
 use Rattle.assignment.specs.Answer.{work_for}
-use Rattle.assignment.specs.Search.{at, list_of, offer_of, offers}
+use Rattle.assignment.specs.Search.{at, list_of, offer_of, offers, nearer, parents}
 use Rattle.assignment.proofs.Growth.{at_list, long_list}
 
 -- Row i of n ends within n × n: (i + 1) × n ≤ n × n.
@@ -21,6 +21,13 @@ offered W n u v mine row i d base lv eb em e =
 
 pub filled : (n x : ℕ) → replicate n x ≡ list_of (λ _. x) n
 filled n x = fill_by_all (λ _. x) (replicate n x) n 0 (length-replicate n x) (λ k l. get_or-replicate n k x 0 l)
+
+-- What a row leaves, by the row that it is.
+pub nearer_by : (n : ℕ) (row o b b' : List ℕ) → row ≡ o → length row ≡ n → b' ≡ nearer (length row) row b → b' ≡ nearer n o b
+nearer_by n row o b b' e l x = rw (l, e) at x
+
+pub parents_by : (n i : ℕ) (row o b f f' : List ℕ) → row ≡ o → length row ≡ n → f' ≡ parents (length row) i row b f → f' ≡ parents n i o b f
+parents_by n i row o b f f' e l x = rw (l, e) at x
 
 -- The work of the most people, 24 × 24 + 7 × 24, is enough.
 pub work_within : (n m : ℕ) → n ≤ most_people → 744 ≤ m → work_for n ≤ m

@@ -1,7 +1,8 @@
 -- Rents and cents in one slice, and how large they are.
-use Rattle.std.proofs.Common.{◌≡◌, ℕ, suc, ◌*◌, ◌<◌, ◌≤◌, List, ◌++◌, map, length, get_or, take, drop, ℤ, pos, ◌+ℤ◌, sym, ap, ◌∙◌, ap₂, inl, inr, arith, w64, to_z, of_z}
+use Rattle.std.proofs.Common.{◌≡◌, ℕ, suc, ◌+◌, ◌*◌, ◌<◌, ◌≤◌, List, ◌++◌, map, length, get_or, take, drop, ℤ, pos, ◌+ℤ◌, sym, ap, ◌∙◌, ap₂, inl, inr, arith, w64, to_z, of_z}
+use lib.Seq.{paste}
 use Rattle.std.proofs.lemmas.List.FromFn.{length-map-range_with_len}
-use Rattle.std.proofs.lemmas.List.{drop_at, take_all, get_or-map, get_or-take, length-map, length-take-le}
+use Rattle.std.proofs.lemmas.List.{drop_at, take_all, get_or-map, get_or-take, length-append, length-map, length-take-le, take-append-le, take_at}
 use Rattle.std.proofs.lemmas.Int.{ints}
 use Rattle.std.proofs.lemmas.Bool.{cases_lt}
 use Rattle.rooms.specs.House.{rent_of, sum}
@@ -20,6 +21,18 @@ pub held_at : (n : ℕ) (xs : List ℕ) (r : ℕ) → r < n → n ≤ length xs 
 held_at n xs r l e =
     let a : r < length (take n xs) = let k = length-take-le n xs e in omega arith in
     get_or-map (to_z w64) (take n xs) r 0 (pos 0) a ∙ ap (to_z w64) (get_or-take n xs r 0 l)
+
+-- What is written after the first n keeps them.
+pub front_kept : (n : ℕ) (xs s : List ℕ) (k : ℕ) → n ≤ length xs → take n (paste xs n s k) ≡ take n xs
+front_kept n xs s k e =
+    let a = length-take-le n xs e in
+    let b : n ≤ length (take n xs ++ take k s) = let q = length-append (take n xs) (take k s) in omega arith in
+    take-append-le n (take n xs ++ take k s) (drop (n + k) xs) b ∙ take_at (take n xs) (take k s) n a
+
+-- So a room's fraction is the same as long as the first n are.
+pub floor_kept : (n : ℕ) (xs ys : List ℕ) (r : ℕ) → take n ys ≡ take n xs → n ≤ length ys → r < n → floor (to_z w64 (get_or ys r 0)) n ≡ floor_at n (held n xs) r
+floor_kept n xs ys r k e l =
+    ap (λ (z : ℤ). floor z n) (sym (held_at n ys r l e) ∙ ap (λ (t : List ℕ). rent_of (map (to_z w64) t) r) k)
 
 -- The first n alone, as the half of a slice that is split there.
 module _ (n : ℕ) (xs front : List ℕ) (fits : n ≤ length xs) (e : front ≡ take n xs) where

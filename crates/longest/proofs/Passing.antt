@@ -1,5 +1,5 @@
 -- One pass over the people: everybody takes the row through person k where it leaves less.
-use Rattle.std.proofs.Common.{◌≡◌, ℕ, ◌+◌, ◌<◌, ◌≤◌, true, false, cond, ltb, ◌≢◌, List, length, set, sym, ap, ◌∙◌, arith, get_or-set_other, get_or-set_same, below_more}
+use Rattle.std.proofs.Common.{◌≡◌, ℕ, ◌+◌, ◌<◌, ◌≤◌, true, false, cond, ltb, ◌≢◌, List, length, set, sym, refl, ap, ◌∙◌, arith, get_or-set_other, get_or-set_same, below_more}
 use Rattle.std.proofs.lemmas.Bool.{lt-ltb, le-ltb, cond-true, cond-false}
 use Rattle.std.proofs.lemmas.List.FromFn.{fill_by_all}
 use Rattle.assignment.specs.Search.{at}
@@ -35,6 +35,9 @@ pub record Passing (s : ℕ → ℕ → ℕ) (k rest i : ℕ) (o f p q : List �
   pub by_rest : (j : ℕ) → i ≤ j → at q j ≡ at f j
 
 module _ (s : ℕ → ℕ → ℕ) (k rest : ℕ) (o f : List ℕ) where
+  pub passing_none : Passing s k rest 0 o f o f
+  passing_none = record { lower = λ j h. absurd (omega arith); by = λ j h. absurd (omega arith); lower_rest = λ j h. refl; by_rest = λ j h. refl }
+
   module _ (i : ℕ) (p q : List ℕ) (x : Passing s k rest i o f p q) (left : ℕ) (e : left ≡ rest + s k i) where
     pub passing_takes : i < length p → i < length q → left < at p i → Passing s k rest (i + 1) o f (set p i left) (set q i k)
     passing_takes hp hq lt =

@@ -72,6 +72,9 @@ pub run_goes : (s : ℕ → ℕ → ℕ) (n t : ℕ) (x : State) → (nearest n 
 unfolding run
 run_goes s n t x d = cond-false _ _ _ (ne_eqb _ _ d)
 
+pub run_none : (s : ℕ → ℕ → ℕ) (n : ℕ) (x : State) → run s n (n - 0) x ≡ run s n n x
+run_none s n x = ap (λ t. run s n t x) (omega arith)
+
 -- What is left of the rounds, from round r on.
 module _ (s : ℕ → ℕ → ℕ) (n r : ℕ) (x y : State) (e : run s n (n - r) x ≡ y) where
   pub run_break : r < n → n ≡ nearest n x.left x.offered.offer n → x ≡ y

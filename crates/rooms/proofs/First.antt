@@ -1,6 +1,6 @@
 -- The first number at which a test holds: the test fails before it, holds at it, and there is only one such number.
-use Rattle.std.proofs.Common.{◌≡◌, ℕ, zero, suc, ◌<◌, sym, ◌≤◌, Bool, true, false, cond, ltb, ◌⊎◌, refl, ap, ◌∙◌, inl, inr, arith}
-use Rattle.std.proofs.lemmas.Bool.{le-ltb, ltb-true, ltb-false, both_ways, cases_Bool, cases_eq}
+use Rattle.std.proofs.Common.{◌≡◌, ℕ, zero, suc, ◌<◌, sym, ◌≤◌, Bool, true, false, cond, eqb, ltb, ◌⊎◌, Decides, refl, ap, ◌∙◌, inl, inr, arith}
+use Rattle.std.proofs.lemmas.Bool.{le-ltb, ltb-true, ltb-false, eqb-true, eq-eqb, both_ways, cases_Bool, cases_eq}
 use Rattle.std.proofs.lemmas.Iterator.{first_from_Range}
 use Rattle.std.proofs.iter.Yields.{nat_range_steps}
 use Rattle.std.proofs.Common.{List, Option, Some, None, Bor}
@@ -87,6 +87,10 @@ first_same s t (suc n) h =
     let a : first s n ≡ first t n = first_same s t n (λ k l. h k (omega arith)) in
     let b : s n ≡ t n = h n (omega arith) in
     ap (λ x. or_here x n (first s n)) b ∙ ap (or_here (t n) n) a
+
+-- Whether there is none decides whether the test fails everywhere.
+pub first_decides : (t : ℕ → Bool) (n : ℕ) → Decides (eqb (first t n) n) ((k : ℕ) → k < n → t k ≡ false)
+first_decides t n = (λ e. none_first t n (eqb-true _ _ e), λ h. eq-eqb _ _ (first_none t n h))
 
 pub some_false : (t : ℕ → Bool) (n : ℕ) → some t n ≡ false → (k : ℕ) → k < n → t k ≡ false
 some_false t n e k l = first_before t n k (omega (arith, ltb-false _ _ e))

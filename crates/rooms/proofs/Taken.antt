@@ -1,9 +1,9 @@
 -- What bytes that are taken as a house have passed, and that their house is within the bounds.
-use Rattle.std.proofs.Common.{◌≡◌, ℕ, ◌+◌, ◌-◌, ◌*◌, ◌<◌, ◌≤◌, Bool, true, false, cond, ◌||◌, eqb, ltb, List, [], ◌++◌, map, length, get_or, take, drop, replicate, sym, refl, ap, ◌∙◌, inl, inr, arith}
+use Rattle.std.proofs.Common.{◌≡◌, ℕ, ◌+◌, ◌-◌, ◌*◌, ◌<◌, ◌≤◌, Bool, true, false, cond, ◌||◌, eqb, ltb, List, [], ◌++◌, map, length, get_or, take, drop, set, replicate, sym, refl, ap, ◌∙◌, inl, inr, arith, below_more}
 use Rattle.std.specs.List.{range_with_len}
 use Rattle.std.proofs.lemmas.Nat.{mul-add-lt}
 use Rattle.std.proofs.lemmas.List.FromFn.{fill_by_all, length-map-range_with_len, get_or-map-range_with_len}
-use Rattle.std.proofs.lemmas.List.{get_or_append_left, get_or-append_right, get_or_past, get_or-replicate, length-append, length-replicate, length-take-le, drop-replicate}
+use Rattle.std.proofs.lemmas.List.{get_or_append_left, get_or-append_right, get_or_past, get_or-replicate, length-append, length-replicate, length-set, length-take-le, drop-replicate, get_or-set_same, get_or-set_other, ext_get_or}
 use Rattle.std.proofs.lemmas.Bool.{ltb-false, le-ltb, eqb-false, ne_eqb, or_parts, or_from, both_ways, cases_lt}
 use Rattle.rooms.specs.House.{House, worth_at}
 use Rattle.rooms.specs.Format.{most_people, most_rent, most_worth, Allowed, word, group_length, worth_place, people, worth_word, house_of, row_of, first_large, read, is_taken}
@@ -127,6 +127,35 @@ allowed s p = record {
   ];
 }
 
+-- One person's worths in an array, as far as they are written.
+pub record Written (s : List ℕ) (i r : ℕ) (mine : List ℕ) : Type 0 where
+  pub whole : length mine ≡ most_people
+  pub each : (k : ℕ) → k < r → get_or mine k 0 ≡ worth_word s (i * people s + k)
+  pub rest : (k : ℕ) → r ≤ k → get_or mine k 0 ≡ 0
+
+pub written_none : (s : List ℕ) (i : ℕ) → Written s i 0 (replicate most_people 0)
+written_none s i = record {
+  whole = refl;
+  each = λ k l. absurd (omega arith);
+  rest = λ k l. elim (cases_lt k most_people) [ inl m ↦ get_or-replicate most_people k 0 0 m | inr m ↦ get_or_past (replicate most_people 0) k 0 m ];
+}
+
+pub written_more : (s : List ℕ) (i r : ℕ) (mine : List ℕ) (x : ℕ) → r < most_people → x ≡ worth_word s (i * people s + r) → Written s i r mine →
+    Written s i (r + 1) (set mine r x)
+written_more s i r mine x h e w =
+    let lt : r < length mine = let a = w.whole in omega arith in
+    record {
+      whole = length-set mine r x ∙ w.whole;
+      each = below_more _ _ (λ k l. get_or-set_other mine r k x 0 (λ q. omega arith) ∙ w.each k l) (get_or-set_same mine r x 0 lt ∙ e);
+      rest = λ k l. get_or-set_other mine r k x 0 (λ q. omega arith) ∙ w.rest k (omega arith);
+    }
+
+pub written_each : (s : List ℕ) (i : ℕ) (mine : List ℕ) → i < people s → Written s i (people s) mine → (r : ℕ) → get_or mine r 0 ≡ worth_at (house_of s) i r
+written_each s i mine l w r = elim (cases_lt r (people s)) [
+  | inl m ↦ w.each r m ∙ sym (worth_is s i r l m)
+  | inr m ↦ w.rest r m ∙ sym (worth_past s i r l m)
+]
+
 row_of_long : (s : List ℕ) (i : ℕ) → people s ≤ most_people → i < people s → length (row_of (house_of s) i) ≡ most_people
 unfolding house_of
 row_of_long s i few l =
@@ -147,6 +176,11 @@ row_of_at s i k l m =
           ∙ get_or-replicate (most_people - people s) (k - people s) 0 0 (omega arith)
           ∙ sym (worth_past s i k l q)
     ]
+
+pub written_whole : (s : List ℕ) (i : ℕ) (mine : List ℕ) → people s ≤ most_people → i < people s → Written s i (people s) mine → mine ≡ row_of (house_of s) i
+written_whole s i mine few l w =
+    ext_get_or 0 mine (row_of (house_of s) i) (w.whole ∙ sym (row_of_long s i few l))
+    (λ k m. written_each s i mine l w k ∙ sym (row_of_at s i k l (let a = w.whole in omega arith)))
 
 -- Each of a person's worths in an array, and nothing past the rooms.
 pub row_of_each : (s : List ℕ) (i r : ℕ) → people s ≤ most_people → i < people s → get_or (row_of (house_of s) i) r 0 ≡ worth_at (house_of s) i r

@@ -1,15 +1,17 @@
 -- What the slices hold when share has laid its answer into them: lengths in arrays, numbers as bits, work that was cleaned twice.
-use Rattle.std.proofs.Common.{◌≡◌, ℕ, ◌+◌, ◌-◌, ◌*◌, ◌<◌, ◌≤◌, List, [], ◌++◌, map, length, get_or, take, drop, replicate, ℤ, pos, ◌-ℤ◌, ◌*ℤ◌, sym, refl, ap, ◌∙◌, subst, append_assoc, arith, w64, SFits, to_z, of_z}
+use Rattle.std.proofs.Common.{◌≡◌, ℕ, ◌+◌, ◌-◌, ◌*◌, ◌<◌, ◌≤◌, Bool, true, false, cond, ltb, List, [], ◌++◌, map, length, get_or, take, drop, replicate, ℤ, pos, ◌-ℤ◌, ◌*ℤ◌, sym, refl, ap, ◌∙◌, subst, append_assoc, arith, w64, SFits, to_z, of_z}
 use Rattle.std.specs.List.{range_with_len}
 use Rattle.std.proofs.lemmas.List.FromFn.{length-map-range_with_len}
 use Rattle.std.proofs.lemmas.List.{append-nil, drop-append-le, drop-drop, drop-replicate, get_or_append_left, get_or-append_right, get_or-map, length-map, length-replicate, replicate-append-replicate, take_at, drop_at}
 use Rattle.std.proofs.lemmas.Int.{ints, to_z-of_z}
 use Rattle.rooms.specs.Before.{nobody}
-use Rattle.rooms.specs.Format.{Allowed, most_people, most_worth}
+use Rattle.std.proofs.lemmas.Bool.{both_ways}
+use Rattle.rooms.specs.Format.{Allowed, Reading, is_taken, most_people, most_worth}
+use Rattle.rooms.specs.Format.Reading.{taken, refused}
 use Rattle.rooms.specs.House.{House, joint, rent_of, room_of, sum, value}
 use Rattle.rooms.specs.Rows.{Longest, number, signed}
 use Rattle.rooms.proofs.Sharing.{certified_best}
-use Rattle.assignment.specs.Answer.{array_of, persons_of, prices_of, sharing_of}
+use Rattle.assignment.specs.Answer.{array_of, persons_of, prices_of, sharing_of, work_for}
 use Rattle.assignment.specs.Promise.{Solved}
 use Rattle.assignment.proofs.Shown.{answered, answered_front}
 use Rattle.longest.proofs.Padded.{padded_reads}
@@ -20,7 +22,7 @@ use Rattle.whole.specs.Bits.{Signed64}
 use Rattle.cents.specs.Cents.{cents_of}
 use Rattle.sheet.specs.Format.{sheet_bytes, sheet_length}
 use Rattle.sheet.specs.Write.{handed}
-use Rattle.sheet.specs.Share.{fair_cents, fair_rents, lengths_of, priors_of, sheet_for}
+use Rattle.sheet.specs.Share.{fair_cents, fair_rents, lengths_of, lent_enough, priors_of, sheet_for}
 use Rattle.sheet.proofs.Sheets.{handed_says}
 use Rattle.sheet.proofs.Fairly.{cent_64, due_64, roundable, rents_long}
 
@@ -92,6 +94,19 @@ module _ (h : House) (a : Allowed h) (tail : List ℕ) where
     persons = λ i l. natural_there (persons_of h) (most_people - length (persons_of h)) i;
     rooms = λ r l. natural_there (prices_of h) (most_people - length (prices_of h)) r;
   })
+
+-- Where slices are long enough, a group is taken by its own bytes.
+pub taken_lent : (a b c d : ℕ) (r : Reading) (h : House) → lent_enough a b c d r ≡ taken h → r ≡ taken h
+taken_lent a b c d (refused at) h e = e
+taken_lent a b c d (taken k) h e = go (ltb a k.n) (ltb b (2 * k.n)) (ltb c (work_for k.n)) (ltb d (sheet_length k.n)) e
+  where
+    go : (p q r s : Bool) →
+        cond p (refused (5, 0)) (cond q (refused (5, 1)) (cond r (refused (5, 2)) (cond s (refused (5, 3)) (taken k)))) ≡ taken h → taken k ≡ taken h
+    go true q r s e = absurd (both_ways false refl (ap is_taken e))
+    go false true r s e = absurd (both_ways false refl (ap is_taken e))
+    go false false true s e = absurd (both_ways false refl (ap is_taken e))
+    go false false false true e = absurd (both_ways false refl (ap is_taken e))
+    go false false false false e = e
 
 -- ---- what each part of share has left, by equations between what it was given and the house
 

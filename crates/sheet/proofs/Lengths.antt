@@ -1,9 +1,9 @@
 -- What the tests of the longest rows say of the entries that stand in arrays.
-use Rattle.std.proofs.Common.{◌≡◌, ℕ, ◌<◌, ◌≤◌, true, false, List, length, get_or, take, ℤ, pos, ◌+ℤ◌, ◌-ℤ◌, sym, ap, ◌∙◌}
+use Rattle.std.proofs.Common.{◌≡◌, ℕ, zero, suc, ◌-◌, ◌<◌, ◌≤◌, true, false, List, length, get_or, take, ℤ, pos, ◌+ℤ◌, ◌-ℤ◌, sym, refl, ap, ◌∙◌, sub-one, arith}
 use lib.Signed.{lt_z}
 use Rattle.std.proofs.lemmas.List.{get_or_default, get_or-take}
-use Rattle.std.proofs.lemmas.Bool.{eq-eqb, le-ltb, ne_eqb, lt-ltb, not_from_false, or_left, or_right}
-use Rattle.rooms.specs.Before.{nobody, prior}
+use Rattle.std.proofs.lemmas.Bool.{and_left, and_from, eq-eqb, le-ltb, ne_eqb, lt-ltb, not_from_false, not_from_true, or_left, or_right}
+use Rattle.rooms.specs.Before.{leads_back, nobody, prior}
 use Rattle.rooms.specs.House.{House, room_of, value, worth_at}
 use Rattle.rooms.specs.Rows.{number, way}
 use Rattle.rents.specs.Shown.{Claim}
@@ -12,6 +12,20 @@ use Rattle.rents.specs.Faults.{differs, length_fault}
 -- ---- going back
 pub prior_read : (before : List ℕ) (n k : ℕ) → k < n → k < length before → prior (take n before) k ≡ get_or before k 0
 prior_read before n k l m = get_or-take n before k nobody l ∙ get_or_default before k nobody 0 m
+
+module _ (before : List ℕ) (i j : ℕ) where
+  pub back_none : (left : ℕ) → prior before j ≡ nobody → false ≡ leads_back before left i j
+  back_none zero e = refl
+  back_none (suc m) e = sym (and_left _ _ (not_from_true _ (eq-eqb _ _ e)))
+
+  pub back_here : (left : ℕ) → 0 < left → (prior before j ≡ nobody → ⊥) → prior before j ≡ i → true ≡ leads_back before left i j
+  back_here zero l ne e = absurd (omega arith)
+  back_here (suc m) l ne e = sym (and_from _ _ (not_from_false _ (ne_eqb _ _ ne)) (or_left _ _ (eq-eqb _ _ e)))
+
+  pub back_on : (left : ℕ) → 0 < left → (prior before j ≡ nobody → ⊥) → (prior before j ≡ i → ⊥) →
+      leads_back before (left - 1) i (prior before j) ≡ leads_back before left i j
+  back_on zero l ne e = absurd (omega arith)
+  back_on (suc m) l ne e = rw (sub-one, ne_eqb (prior before j) nobody ne, ne_eqb (prior before j) i e)
 
 -- ---- the length of a row and a way
 module _ (h : House) (c : Claim) where

@@ -25,7 +25,7 @@ use Rattle.cents.specs.Cents.{Rounded, cents_of}
 use Rattle.sheet.specs.Accepted.{AcceptedFair, AcceptedMeans, AcceptedPayable, AcceptedShown, FairAccepted, NumbersOff, Payable, RefusedFalse, RefusedFor, RightCents, RowOff, ShownAccepted, WithoutRoom}
 use Rattle.sheet.specs.Accepted.RefusedFor.{cents, numbers, rents, rooms, rows, ways}
 use Rattle.sheet.specs.declared.entries.Entries.{Entries}
-use Rattle.sheet.specs.Entries.{entered}
+use Rattle.sheet.specs.Entries.{claimed, entered}
 use Rattle.sheet.specs.Format.{Sheet, sheet_length, sheet_of, signed_at}
 use Rattle.sheet.specs.Judge.{Judgement, cents_fault, judge, judge_read, judge_sheet, place}
 use Rattle.sheet.specs.Judge.Judgement.{accepted, faulty}
@@ -207,6 +207,9 @@ sheet_cents_long n s = length-map-range_with_len (λ k. signed_at s (10 * n + 8 
 -- Entries that were read from a sheet are those of everybody.
 pub entered_whole : (h : House) (e : Entries) (s : List ℕ) (n : ℕ) → n ≡ h.n → entered n e ≡ sheet_of n s → entered h.n e ≡ sheet_of h.n s
 entered_whole h e s n p q = ap (λ (m : ℕ). entered m e) (sym p) ∙ q ∙ ap (λ (m : ℕ). sheet_of m s) p
+
+pub claimed_whole : (h : House) (e : Entries) (s : List ℕ) (n : ℕ) → n ≡ h.n → entered n e ≡ sheet_of n s → Whole h (claimed h e)
+claimed_whole h e s n p q = subst (λ (z : Sheet). Whole h z.claim) (sym (entered_whole h e s n p q)) (sheet_whole h s)
 
 module _ (group sheet : List ℕ) where
   pub judged_refused : (at : ℕ × ℕ) → read group ≡ refused at → faulty at ≡ judge group sheet

@@ -96,11 +96,15 @@ pub fn misused<'a>(rt: &impl Eprint, usage: &str) -> Result<ExitCode, Failure<'a
 pub fn helped<'a>(rt: &impl Print, usage: &str, help: &str) -> Result<ExitCode, Failure<'a>>
     ensures { IfOk result (λ code. exit_status code ≡ 0) }
 {
-    printed(println!(rt; "{usage}\n{help}"))?;
+    printed(println!(rt; "{usage}"))?;
+    for line in help.lines() {
+        printed(println!(rt; "{line}"))?;
+    }
     Ok(ExitCode::SUCCESS)
 }
 
-// The status that a program ends with. What it failed by is one line on standard error; where that takes nothing, the status alone tells of it.
+// The status that a program ends with. What it failed by is one line on standard error; where it can't be told, why it can't is tried, and then the
+// status alone tells of it.
 pub fn ended<E: fmt::Display + Drop>(
     rt: &impl Eprint,
     program: &str,
@@ -111,7 +115,10 @@ pub fn ended<E: fmt::Display + Drop>(
     match outcome {
         Ok(code) => code,
         Err(failure) => {
-            let _ = eprintln!(rt; "{program}: {failure}");
+            let told = eprintln!(rt; "{program}: {failure}");
+            if let Err(untold) = told {
+                let _ = eprintln!(rt; "{program}: {untold}");
+            }
             ExitCode::FAILURE
         }
     }

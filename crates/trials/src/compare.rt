@@ -6,7 +6,7 @@ use super::lent::Lent;
 use super::plain::{best_worth, is_settled, least_gain, signed_sum};
 use super::seed::Seed;
 use sheet::{Verdict, check, sheet_len};
-use std::{fmt, io};
+use std::io;
 
 // What was compared and came out the same, over all houses.
 #[derive(Clone, Copy, Default)]
@@ -76,22 +76,19 @@ impl Tally {
             self.try_changed(group, &mut lent.sheet[..sheet_len(n)], n);
         }
     }
-}
 
-impl fmt::Display for Tally {
-    fn fmt<W: fmt::Write>(&self, f: &mut fmt::Formatter<W>) -> fmt::Result {
-        writeln!(f, "houses of up to 5, of 3000 taken: {}", self.taken)?;
-        writeln!(f, "joint worth as the best of all sharings: {}", self.best)?;
-        writeln!(f, "rents add up and settle: {}", self.settled)?;
-        writeln!(
-            f,
+    // Told line by line: what was said stands where standard output takes no more.
+    fn tell(&self, rt: &impl Print) -> io::Result<()> {
+        println!(rt; "houses of up to 5, of 3000 taken: {}", self.taken)?;
+        println!(rt; "joint worth as the best of all sharings: {}", self.best)?;
+        println!(rt; "rents add up and settle: {}", self.settled)?;
+        println!(rt;
             "least gain as by the longest rows of a plain search: {}",
             self.least
         )?;
-        writeln!(f, "cents add up: {}", self.cents)?;
-        writeln!(f, "sheets accepted: {}", self.accepted)?;
-        write!(
-            f,
+        println!(rt; "cents add up: {}", self.cents)?;
+        println!(rt; "sheets accepted: {}", self.accepted)?;
+        println!(rt;
             "sheets with one byte changed: {}, refused: {}",
             self.changed, self.refused
         )
@@ -107,5 +104,5 @@ pub(super) fn compare_all(rt: &HostRuntime) -> io::Result<()> {
         let house = House::small(heap, &mut seed, k)?;
         tally.compare(&house, house.bytes(heap)?.as_slice());
     }
-    println!(rt; "{tally}")
+    tally.tell(rt)
 }

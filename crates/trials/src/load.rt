@@ -53,16 +53,14 @@ impl Tally {
         }
         self.take(Some(fault));
     }
-}
 
-impl fmt::Display for Tally {
-    fn fmt<W: fmt::Write>(&self, f: &mut fmt::Formatter<W>) -> fmt::Result {
-        write!(f, "taken or accepted {}, refused", self.taken)?;
+    // Told piece by piece: what was said stands where standard output takes no more.
+    fn tell(&self, rt: &impl Print, count: u64) -> io::Result<()> {
+        print!(rt; "groups {count}, taken or accepted {}, refused", self.taken)?;
         for (number, times) in (1u32..).zip(&self.refused) {
-            write!(f, " {number}: {times}")?;
+            print!(rt; " {number}: {times}")?;
         }
-        write!(
-            f,
+        println!(rt;
             ", ill formed {}, changing what was lent {}, sum {}",
             self.ill_formed, self.changed, self.sum
         )
@@ -306,5 +304,5 @@ pub(super) fn load_all(rt: &HostRuntime, count: u64) -> io::Result<()> {
     for k in 0..count {
         trial.try_number(k)?;
     }
-    println!(rt; "groups {count}, {}", trial.tally)
+    trial.tally.tell(rt, count)
 }

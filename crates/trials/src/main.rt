@@ -13,6 +13,7 @@ mod timing;
 use compare::compare_all;
 use files::{Failure, ended, misused, with_words};
 use load::load_all;
+use std::io;
 use std::process::ExitCode;
 use timing::time_all;
 
@@ -29,10 +30,18 @@ fn number(word: Option<&String>) -> Option<u64> {
     word?.as_str().parse::<u64>().ok()
 }
 
+// Not by files::helped, which tells of standard output in other words where it fails.
+fn help(rt: &HostRuntime) -> io::Result<()> {
+    println!(rt; "{USAGE}")?;
+    for line in HELP.lines() {
+        println!(rt; "{line}")?;
+    }
+    Ok(())
+}
+
 fn run(rt: &HostRuntime, words: &[String]) -> Result<ExitCode, Failure<'static>> {
     match words.first().map_or("compare", |word| word.as_str()) {
-        // Not by files::helped, which tells of standard output in other words where it fails.
-        "--help" => println!(rt; "{USAGE}\n{HELP}")?,
+        "--help" => help(rt)?,
         "compare" => compare_all(rt)?,
         "time" => {
             let (Some(count), Some(passes)) = (number(words.get(1)), number(words.get(2))) else {

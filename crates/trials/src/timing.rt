@@ -1,10 +1,14 @@
 // Groups made from a seed, shared and checked, and how long each part takes.
+ghost use Rattle.std.specs.Prelude.{◌<◌, ◌≤◌};
+ghost use Rattle.rooms.specs.declared.group.TheConstants.{MOST_PEOPLE};
+
 use super::compare::count;
 use super::kinds::{KINDS, Kind};
 use super::lent::Lent;
 use super::seed::Seed;
 use assignment::assign;
 use longest::longest_rows;
+use rooms::group::MOST_PEOPLE;
 use rooms::{Group, Refusal};
 use sheet::{Verdict, check, sheet_len};
 use std::alloc::{AllocError, Global};
@@ -26,10 +30,28 @@ impl fmt::Display for Lot {
 }
 
 // A group, and the sheet of its share.
+#[derive(Clone, Copy)]
+struct Case<'a> {
+    group: &'a [u8],
+    sheet: &'a [u8],
+}
+
+// The cases of a lot. All its groups are as long as one another, and so are their sheets: they lie one after the other, since a lot may have millions.
 #[derive(Drop)]
-struct Case {
-    group: Vec<u8>,
-    sheet: Vec<u8>,
+struct Cases {
+    n: usize,
+    groups: Vec<u8>,
+    sheets: Vec<u8>,
+    ghost some: { 0 < n },
+    ghost few: { n ≤ MOST_PEOPLE },
+}
+
+// How long the group of n people is.
+fn group_len(n: usize) -> usize
+    requires { n ≤ MOST_PEOPLE }
+    ensures { 0 < result }
+{
+    5 + 4 * (n * n)
 }
 
 // How long a pass over all cases took, in nanoseconds: up to the end of each part of a share, and checking.
@@ -105,14 +127,18 @@ struct Answers {
 }
 
 impl Answers {
-    // Shares and checks one group, and takes all that was answered into the sum. Its sheet; none where it is refused, which is no failure.
-    fn take(&mut self, heap: Global, group: &[u8]) -> Result<Option<Vec<u8>>, AllocError> {
-        let mut lent = Lent::filled(0);
+    // Shares and checks one group, takes all that was answered into the sum, and keeps its sheet. One that is refused is no failure.
+    fn take(
+        &mut self,
+        group: &[u8],
+        lent: &mut Lent,
+        sheets: &mut Vec<u8>,
+    ) -> Result<(), AllocError> {
         let Ok(shared) = lent.share(group) else {
-            return Ok(None);
+            return Ok(());
         };
         let n = shared.people;
-        let sheet = lent.sheet[..sheet_len(n)].to_vec(heap)?;
+        let sheet = &lent.sheet[..sheet_len(n)];
         let totals = [
             shared.joint.cast_unsigned(),
             shared.least.cast_unsigned(),
@@ -125,26 +151,38 @@ impl Answers {
         self.sum = rooms.fold(self.sum, mix);
         self.sum = rents.fold(self.sum, mix);
         self.sum = bytes.fold(self.sum, mix);
-        let accepted = check(group, sheet.as_slice()) == Verdict::Accepted;
-        let rounds = rounds(group, &mut lent).unwrap_or(0);
+        let accepted = check(group, sheet) == Verdict::Accepted;
+        sheets.extend_from_slice(sheet)?;
+        let rounds = rounds(group, lent).unwrap_or(0);
         self.looks = self.looks.wrapping_add(shared.looks);
         self.rounds = self.rounds.wrapping_add(rounds);
         count(&mut self.accepted, accepted);
-        Ok(Some(sheet))
+        Ok(())
     }
 }
 
-// The groups of a lot with their sheets, and what came out of them.
-fn answer_lot(heap: Global, lot: Lot) -> Result<(Vec<Case>, Answers), AllocError> {
+// The groups of a lot, one after the other.
+fn groups_of(heap: Global, lot: Lot) -> Result<Vec<u8>, AllocError> {
     let mut seed = Seed(u64::from(lot.n));
-    let mut answers = Answers::default();
-    let mut cases = Vec::new(heap);
+    let mut groups = Vec::new(heap);
     for _ in 0..lot.count {
-        let group = lot.kind.house(heap, &mut seed, lot.n)?.bytes(heap)?;
-        if let Some(sheet) = answers.take(heap, group.as_slice())? {
-            cases.push(Case { group, sheet })?;
-        }
+        let house = lot.kind.house(heap, &mut seed, lot.n)?;
+        groups.extend_from_slice(house.bytes(heap)?.as_slice())?;
     }
+    Ok(groups)
+}
+
+// The groups of a lot with their sheets, and what came out of them. All groups are made first, so that each list grows by itself.
+fn answer_lot(heap: Global, lot: Lot) -> Result<(Cases, Answers), AllocError> {
+    let n = usize::from(lot.n).max(1).min(MOST_PEOPLE);
+    let groups = groups_of(heap, lot)?;
+    let mut sheets = Vec::new(heap);
+    let mut lent = Lent::filled(0);
+    let mut answers = Answers::default();
+    for group in groups.chunks_exact(group_len(n)) {
+        answers.take(group, &mut lent, &mut sheets)?;
+    }
+    let cases = Cases { n, groups, sheets };
     Ok((cases, answers))
 }
 
@@ -159,38 +197,42 @@ impl Stopwatch<'_> {
     // How long all cases take, in nanoseconds.
     fn time<F: FnMut(&Case) -> Result<u64, Refusal>>(
         &mut self,
-        cases: &[Case],
+        cases: &Cases,
         mut answer: F,
     ) -> io::Result<u64>
         requires { F.IsAlwaysCallable answer }
     {
+        let groups = cases.groups.chunks_exact(group_len(cases.n));
+        let sheets = cases.sheets.chunks_exact(sheet_len(cases.n));
         let start = Instant::now(self.rt)?;
-        for case in cases {
-            self.seen = self.seen.wrapping_add(answer(case).unwrap_or(0));
+        for (group, sheet) in groups.zip(sheets) {
+            self.seen = self
+                .seen
+                .wrapping_add(answer(&Case { group, sheet }).unwrap_or(0));
         }
         let took = start.elapsed(self.rt)?;
         Ok(u64::try_from(took.as_nanos()).unwrap_or(u64::MAX))
     }
 
-    fn time_pass(&mut self, cases: &[Case]) -> io::Result<Times> {
+    fn time_pass(&mut self, cases: &Cases) -> io::Result<Times> {
         let mut lent = Lent::filled(0);
         Ok(Times {
             read: self.time(cases, |case| {
-                Group::validate(case.group.as_slice())?;
+                Group::validate(case.group)?;
                 Ok(1)
             })?,
-            sharing: self.time(cases, |case| looks(case.group.as_slice(), &mut lent))?,
-            rows: self.time(cases, |case| rounds(case.group.as_slice(), &mut lent))?,
-            share: self.time(cases, |case| Ok(lent.share(case.group.as_slice())?.looks))?,
+            sharing: self.time(cases, |case| looks(case.group, &mut lent))?,
+            rows: self.time(cases, |case| rounds(case.group, &mut lent))?,
+            share: self.time(cases, |case| Ok(lent.share(case.group)?.looks))?,
             check: self.time(cases, |case| {
-                let verdict = check(case.group.as_slice(), case.sheet.as_slice());
+                let verdict = check(case.group, case.sheet);
                 Ok(u64::from(verdict == Verdict::Accepted))
             })?,
         })
     }
 
     // The fastest of the passes, part by part.
-    fn time_passes(&mut self, cases: &[Case], passes: u64) -> io::Result<Times> {
+    fn time_passes(&mut self, cases: &Cases, passes: u64) -> io::Result<Times> {
         let mut best = self.time_pass(cases)?;
         for _ in 1..passes {
             best = best.faster(self.time_pass(cases)?);
@@ -206,7 +248,7 @@ impl Stopwatch<'_> {
             "{lot}: houses {} looks {} rounds {} accepted {} sum {}",
             lot.count, answers.looks, answers.rounds, answers.accepted, answers.sum
         )?;
-        self.time_passes(cases.as_slice(), passes)?.tell(rt, lot)
+        self.time_passes(&cases, passes)?.tell(rt, lot)
     }
 }
 

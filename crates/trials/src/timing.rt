@@ -167,7 +167,10 @@ fn groups_of(heap: Global, lot: Lot) -> Result<Vec<u8>, AllocError> {
     let mut groups = Vec::new(heap);
     for _ in 0..lot.count {
         let house = lot.kind.house(heap, &mut seed, lot.n)?;
-        groups.extend_from_slice(house.bytes(heap)?.as_slice())?;
+        // Byte by byte, so that the room for them doubles from a few bytes on, however long a group is.
+        for byte in house.bytes(heap)?.as_slice() {
+            groups.push(*byte)?;
+        }
     }
     Ok(groups)
 }
